@@ -9,8 +9,7 @@ use Rattle.ct_model.specs.declared.step.Step.{Step}
 use Rattle.ct_model.specs.declared.step.Step.TheVariants as step
 use Rattle.ct_choices.specs.Choices.{has_crashed}
 use Rattle.ct_grammar.specs.declared.act.Act.{Act}
-use Rattle.ct_grammar.specs.declared.act.Act.TheVariants.{Submit, Receive, Begin, Enter, Choose, Adopt, Suspect, Conclude, Deliver, Follow}
-use Rattle.ct_grammar.specs.declared.act.Act.TheVariants.{Crash, Postpone, Lose, Repeat, LoseFrom}
+use Rattle.ct_grammar.specs.declared.act.Act.TheVariants.{LoseFrom}
 use Rattle.ct_grammar.specs.declared.who.Who.{Who}
 use Rattle.ct_grammar.specs.declared.who.Who.TheVariants as who
 use Rattle.ct_play.specs.Acting.{after_losses, after_step, done, done_by, done_by_each}
@@ -123,23 +122,10 @@ one_grows s t p act h =
     grows_more (λ steps. steps ≡ on.0 ∷ []) (IsOne s.rehearsal p act) s t (λ steps so. (on.0, on.1, so)) (after_grows s t on.0 on.2)
 
 pub deed_grows : (s t : Played) (p : ℕ) (act : Act) → done s p act ≡ Ok t → Grows (IsDeed act s.rehearsal p) s t
-deed_grows s t p (Submit c) h = one_grows s t p (Submit c) h
-deed_grows s t p (Receive pick) h = one_grows s t p (Receive pick) h
-deed_grows s t p Begin h = one_grows s t p Begin h
-deed_grows s t p Enter h = one_grows s t p Enter h
-deed_grows s t p (Choose from) h = one_grows s t p (Choose from) h
-deed_grows s t p Adopt h = one_grows s t p Adopt h
-deed_grows s t p Suspect h = one_grows s t p Suspect h
-deed_grows s t p Conclude h = one_grows s t p Conclude h
-deed_grows s t p Deliver h = one_grows s t p Deliver h
-deed_grows s t p Follow h = one_grows s t p Follow h
-deed_grows s t p Crash h = one_grows s t p Crash h
-deed_grows s t p (Postpone pick) h = one_grows s t p (Postpone pick) h
-deed_grows s t p (Lose pick) h = one_grows s t p (Lose pick) h
-deed_grows s t p (Repeat pick) h = one_grows s t p (Repeat pick) h
 deed_grows s t p (LoseFrom set) h =
     let on = going_on (step_of s.rehearsal p (LoseFrom set)) (λ _. after_losses p s (waiting_from s.rehearsal p set)) t h in
     losses_grow p (waiting_from s.rehearsal p set) s t on.2
+deed_grows s t p act h = one_grows s t p act h
 
 -- ---- a step that comes to this
 

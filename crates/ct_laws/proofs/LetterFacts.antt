@@ -1,5 +1,5 @@
 -- The facts of an envelope are true.
-use Rattle.std.proofs.Common.{◌≡◌, ◌⊎◌, inl, inr, ◌<◌, ◌≤◌, ◌==◌, ℕ, zero, suc, Bool, true, false, List, [], ◌∷◌, ◌++◌, refl, ap, sym}
+use Rattle.std.proofs.Common.{◌≡◌, inl, inr, ◌<◌, ◌≤◌, ℕ, zero, suc, Bool, true, false, List, [], ◌∷◌, ◌++◌, refl, ap, sym}
 use Rattle.std.proofs.Common.{◌∙◌, subst, append-nil, arith, codes, decimal, length}
 use Rattle.std.proofs.lemmas.Bool.Decides.{nat_tests}
 use Rattle.std.proofs.lemmas.Option.{slice_get_within}
@@ -8,6 +8,7 @@ use Rattle.std.specs.List.{concat}
 use Rattle.std.specs.Prelude.{if◌then◌else◌, Option, Some, None, option_and_then, option_map, slice_get, unwrap_or}
 use Rattle.ct_names.specs.declared.refusal.Refusal.{Refusal}
 use Rattle.ct_names.specs.declared.refusal.Refusal.TheVariants as refusal
+use Rattle.ct_names.proofs.Lists.{contrary}
 use Rattle.ct_model.specs.AtValue.{Envelope}
 use Rattle.ct_model.specs.Mapped.{without_value}
 use Rattle.ct_model.specs.Rehearsal.{Rehearsal, line_of, state_of}
@@ -16,6 +17,7 @@ use Rattle.ct_model.specs.Waiting.{has_serial}
 use Rattle.ct_model.specs.Wire.{value_of}
 use Rattle.ct_model.specs.declared.step.Step.{Step}
 use Rattle.ct_model.specs.declared.step.Step.TheVariants as step
+use Rattle.ct_model.proofs.Basics.Tests.{not_true, self_number}
 use Rattle.ct_show.specs.Facts.{last_taking, leaving_text, left_in, left_text, letter_facts, missing_text, place_text, returns}
 use Rattle.ct_show.specs.Facts.{serial_facts, takes, taking_or}
 use Rattle.ct_show.specs.Wires.{carried_text, letter_text, serial_text}
@@ -41,26 +43,18 @@ last_here steps k i s there so = record {
   after = λ later other low high is. absurd (omega (arith, low, high));
 }
 
-after_by : (steps : List Step) (k number i : ℕ) (o : Option Step) → slice_get steps i ≡ o →
-    ((s : Step) → o ≡ Some s → (takes s k ≡ false) × (returns s k ≡ false)) →
-    ((later : ℕ) (other : Step) → number < later → later ≤ i → at_serial steps later ≡ Some other →
-    (takes other k ≡ false) × (returns other k ≡ false)) → (later : ℕ) (other : Step) → number < later →
-    (later ≡ suc i) ⊎ (later < suc i) → at_serial steps later ≡ Some other → (takes other k ≡ false) × (returns other k ≡ false)
-after_by steps k number i o is here before later other low (inl same) there =
-    here other (sym is ∙ subst (λ n. at_serial steps n ≡ Some other) same there)
-after_by steps k number i o is here before later other low (inr less) there = before later other low (omega (arith, less)) there
-
 last_before : (steps : List Step) (k i number : ℕ) (s : Step) (o : Option Step) → slice_get steps i ≡ o →
     ((t : Step) → o ≡ Some t → (takes t k ≡ false) × (returns t k ≡ false)) → IsLast steps k i number s →
     IsLast steps k (suc i) number s
-last_before steps k i number s o is here l =
-    let to : number ≤ i = l.to in
-    record {
-      to = omega (arith, to);
-      there = l.there;
-      so = l.so;
-      after = λ later other low high there. after_by steps k number i o is here l.after later other low (eq-or-lt_of_le high) there;
-    }
+last_before steps k i number s o is here l = record {
+  to = omega (arith, l.to);
+  there = l.there;
+  so = l.so;
+  after = λ later other low high there. elim (eq-or-lt_of_le high) [
+    | inl same ↦ here other (sym is ∙ subst (λ n. at_serial steps n ≡ Some other) same there)
+    | inr less ↦ l.after later other low (omega (arith, less)) there
+  ];
+}
 
 last_step : (steps : List Step) (k i number : ℕ) (s t : Step) (taking returning : Bool) (before : Option (ℕ × Step)) →
     slice_get steps i ≡ Some t → takes t k ≡ taking → returns t k ≡ returning →
@@ -89,20 +83,21 @@ is_last steps k zero number s h = absurd (cc h)
 is_last steps k (suc i) number s h =
     last_by steps k i number s (last_taking steps k i) (slice_get steps i) refl (is_last steps k i number s) h
 
+returns_so : (s : Step) (k : ℕ) → returns s k ≡ true → IsReturning k s
+returns_so (step.Repeat p i) k h = (p, grind (arith, nat_tests))
+returns_so _ k h = absurd (cc h)
+
 takes_so : (s : Step) (k : ℕ) → takes s k ≡ true → IsTaking k s
 takes_so (step.Receive p i) k h = (p, inl (grind (arith, nat_tests)))
 takes_so (step.Lose p i) k h = (p, inr (grind (arith, nat_tests)))
 takes_so _ k h = absurd (cc h)
 
-same_serial : (k : ℕ) → (k == k) ≡ true
-same_serial k = grind (arith, nat_tests)
+so_takes : (s : Step) (k : ℕ) → IsTaking k s → takes s k ≡ true
+so_takes s k (q, inl same) = ap (λ t. takes t k) same ∙ self_number k
+so_takes s k (q, inr same) = ap (λ t. takes t k) same ∙ self_number k
 
-takes_not : (s : Step) (k : ℕ) → takes s k ≡ false → IsTaking k s → ⊥
-takes_not s k h (q, inl same) = cc (sym (same_serial k) ∙ sym (ap (λ t. takes t k) same) ∙ h)
-takes_not s k h (q, inr same) = cc (sym (same_serial k) ∙ sym (ap (λ t. takes t k) same) ∙ h)
-
-returns_not : (s : Step) (k : ℕ) → returns s k ≡ false → IsReturning k s → ⊥
-returns_not s k h (q, same) = cc (sym (same_serial k) ∙ sym (ap (λ t. returns t k) same) ∙ h)
+so_returns : (s : Step) (k : ℕ) → IsReturning k s → returns s k ≡ true
+so_returns s k (q, same) = ap (λ t. returns t k) same ∙ self_number k
 
 at_within : {A : Type 0} (xs : List A) (number : ℕ) (x : A) → at_serial xs number ≡ Some x → number ≤ length xs
 at_within xs zero x h = omega arith
@@ -114,27 +109,13 @@ is_leaving : (w : Rehearsal) (k number : ℕ) (s : Step) → IsLast w.steps k (l
 is_leaving w k number s l = record {
   there = l.there;
   takes = takes_so s k l.so;
-  last = λ later other low there so. takes_not other k (l.after later other low (at_within w.steps later other there) there).0 so;
-  gone = λ later other low there so. returns_not other k (l.after later other low (at_within w.steps later other there) there).1 so;
+  last = λ later other low there so.
+      contrary (takes other k) (so_takes other k so) (l.after later other low (at_within w.steps later other there) there).0;
+  gone = λ later other low there so.
+      contrary (returns other k) (so_returns other k so) (l.after later other low (at_within w.steps later other there) there).1;
 }
 
 -- ---- and such a one is the last
-
-so_takes : (s : Step) (k : ℕ) → IsTaking k s → takes s k ≡ true
-so_takes s k (q, inl same) = ap (λ t. takes t k) same ∙ same_serial k
-so_takes s k (q, inr same) = ap (λ t. takes t k) same ∙ same_serial k
-
-not_taking : (b : Bool) (s : Step) (k : ℕ) → takes s k ≡ b → (IsTaking k s → ⊥) → takes s k ≡ false
-not_taking true s k is none = absurd (none (takes_so s k is))
-not_taking false s k is none = is
-
-returns_so : (s : Step) (k : ℕ) → returns s k ≡ true → IsReturning k s
-returns_so (step.Repeat p i) k h = (p, grind (arith, nat_tests))
-returns_so _ k h = absurd (cc h)
-
-not_returning : (b : Bool) (s : Step) (k : ℕ) → returns s k ≡ b → (IsReturning k s → ⊥) → returns s k ≡ false
-not_returning true s k is none = absurd (none (returns_so s k is))
-not_returning false s k is none = is
 
 takes_here : (steps : List Step) (k i : ℕ) (s : Step) (before : Option (ℕ × Step)) → slice_get steps i ≡ Some s → takes s k ≡ true →
     taking_or before k (suc i) (slice_get steps i) ≡ Some (suc i, s)
@@ -151,74 +132,58 @@ passed_by before k n (Some t) none =
 module _ (steps : List Step) (k number : ℕ) (s : Step) (there : at_serial steps number ≡ Some s) (so : takes s k ≡ true)
     (after : (later : ℕ) (other : Step) → number < later → at_serial steps later ≡ Some other →
     (takes other k ≡ false) × (returns other k ≡ false)) where
-  last_first : (i : ℕ) → (number ≡ suc i) ⊎ (number < suc i) →
-      (number ≤ i → last_taking steps k i ≡ Some (number, s)) → last_taking steps k (suc i) ≡ Some (number, s)
-  last_first i (inl same) more =
-      let here : slice_get steps i ≡ Some s = subst (λ n. at_serial steps n ≡ Some s) same there in
-      takes_here steps k i s (last_taking steps k i) here so ∙ ap (λ n. Some (n, s)) (sym same)
-  last_first i (inr less) more =
-      passed_by (last_taking steps k i) k (suc i) (slice_get steps i) (λ t is. after (suc i) t less is)
-      ∙ more (omega (arith, less))
-
   last_all : (i : ℕ) → number ≤ i → last_taking steps k i ≡ Some (number, s)
   last_all zero low = absurd (nothing number low there)
     where
       nothing : (n : ℕ) → n ≤ 0 → at_serial steps n ≡ Some s → ⊥
       nothing zero low is = cc is
       nothing (suc n) low is = omega (arith, low)
-  last_all (suc i) low = last_first i (eq-or-lt_of_le low) (last_all i)
+  last_all (suc i) low = elim (eq-or-lt_of_le low) [
+    | inl same ↦
+        let here : slice_get steps i ≡ Some s = subst (λ n. at_serial steps n ≡ Some s) same there in
+        takes_here steps k i s (last_taking steps k i) here so ∙ ap (λ n. Some (n, s)) (sym same)
+    | inr less ↦
+        passed_by (last_taking steps k i) k (suc i) (slice_get steps i) (λ t is. after (suc i) t less is) ∙ last_all i (omega (arith, less))
+  ]
 
 taking_is : (w : Rehearsal) (k number : ℕ) (s : Step) → IsLeaving w k number s →
     last_taking w.steps k (length w.steps) ≡ Some (number, s)
 taking_is w k number s l =
     last_all w.steps k number s l.there (so_takes s k l.takes)
     (λ later other low is. (
-      not_taking (takes other k) other k refl (l.last later other low is),
-      not_returning (returns other k) other k refl (l.gone later other low is),
+      not_true (takes other k) (λ yes. l.last later other low is (takes_so other k yes)),
+      not_true (returns other k) (λ yes. l.gone later other low is (returns_so other k yes)),
     ))
     (length w.steps) (at_within w.steps number s l.there)
 
 -- ---- the facts of the envelope
 
-left_facts : Option (ℕ × Step) → List Fact
-left_facts None = []
-left_facts (Some t) = LeftIn t.0 t.1 ∷ []
+-- the text is that of these facts, which are true
+pub record Tells (w : Rehearsal) (p k : ℕ) (r : Refusal) (These : List Fact → Type 0) (text : List ℕ) : Type 0 where
+  pub facts : List Fact
+  pub is : text ≡ texts_of facts
+  pub are : AreTrue w p k r facts
+  pub these : These facts
 
-left_is : (o : Option (ℕ × Step)) → left_text o ≡ texts_of (left_facts o)
-unfolding left_facts left_in
-left_is None = refl
-left_is (Some t) = sym (append-nil _)
+tells_left : (w : Rehearsal) (p k : ℕ) (r : Refusal) (o : Option (ℕ × Step)) → last_taking w.steps k (length w.steps) ≡ o →
+    Tells w p k r (NameLeft w k) (left_text o)
+unfolding left_in
+tells_left w p k r None is = record {
+  facts = [];
+  is = refl;
+  are = tt;
+  these = λ number step leaves. cc (sym is ∙ taking_is w k number step leaves);
+}
+tells_left w p k r (Some t) is = record {
+  facts = LeftIn t.0 t.1 ∷ [];
+  is = sym (append-nil _);
+  are = (is_leaving w k t.0 t.1 (is_last w.steps k (length w.steps) t.0 t.1 is), tt);
+  these = (t.0, t.1, refl, refl);
+}
 
-left_true : (w : Rehearsal) (p k : ℕ) (r : Refusal) (o : Option (ℕ × Step)) → last_taking w.steps k (length w.steps) ≡ o →
-    AreTrue w p k r (left_facts o)
-unfolding left_facts
-left_true w p k r None is = tt
-left_true w p k r (Some t) is = (is_leaving w k t.0 t.1 (is_last w.steps k (length w.steps) t.0 t.1 is), tt)
-
-leaving_facts : Rehearsal → ℕ → Refusal → List Fact
-leaving_facts w k refusal.NotWaiting = left_facts (last_taking w.steps k (length w.steps))
-leaving_facts w k _ = []
-
-leaving_is : (w : Rehearsal) (k : ℕ) (r : Refusal) → leaving_text w k r ≡ texts_of (leaving_facts w k r)
-unfolding leaving_facts
-leaving_is w k refusal.NotWaiting = left_is (last_taking w.steps k (length w.steps))
-leaving_is w k _ = refl
-
-left_named : (w : Rehearsal) (k : ℕ) (o : Option (ℕ × Step)) → last_taking w.steps k (length w.steps) ≡ o → NameLeft w k (left_facts o)
-unfolding left_facts
-left_named w k None none = λ number step leaves. cc (sym none ∙ taking_is w k number step leaves)
-left_named w k (Some t) is = (t.0, t.1, refl, refl)
-
-leaving_named : (w : Rehearsal) (k : ℕ) (r : Refusal) → NameLeaving w k r (leaving_facts w k r)
-unfolding leaving_facts
-leaving_named w k refusal.NotWaiting = left_named w k (last_taking w.steps k (length w.steps)) refl
-leaving_named w k _ = refl
-
-leaving_true : (w : Rehearsal) (p k : ℕ) (r : Refusal) → AreTrue w p k r (leaving_facts w k r)
-unfolding leaving_facts
-leaving_true w p k refusal.NotWaiting =
-    left_true w p k refusal.NotWaiting (last_taking w.steps k (length w.steps)) refl
-leaving_true w p k _ = tt
+tells_leaving : (w : Rehearsal) (p k : ℕ) (r : Refusal) → Tells w p k r (NameLeaving w k r) (leaving_text w k r)
+tells_leaving w p k refusal.NotWaiting = tells_left w p k refusal.NotWaiting (last_taking w.steps k (length w.steps)) refl
+tells_leaving w p k _ = record { facts = []; is = refl; are = tt; these = refl }
 
 place_is : (q : ℕ) (r : Refusal) → place_text q r ≡ fact_text (receiver q r)
 place_is q refusal.NotSent = refl
@@ -239,27 +204,25 @@ carried_is w k e is =
     ∷ letter_text (option_map without_value o) (unwrap_or (option_and_then (λ (e : Envelope). value_of e.wire) o) []) ∷ [])) is
 
 -- the text of these is that of an envelope
-pub record TellsLetter (w : Rehearsal) (p k : ℕ) (r : Refusal) (text : List ℕ) : Type 0 where
-  pub facts : List Fact
-  pub is : text ≡ texts_of facts
-  pub are : AreTrue w p k r facts
-  pub these : NameEnvelope w k r facts
+abbrev pub TellsLetter : Rehearsal → (p k : ℕ) → Refusal → List ℕ → Type 0
+TellsLetter w p k r text = Tells w p k r (NameEnvelope w k r) text
 
 letter_shape : (a b c : List ℕ) → a ++ (b ++ (c ++ [])) ≡ a ++ (b ++ c)
 letter_shape a b c = ap (λ l. a ++ (b ++ l)) (append-nil c)
 
 tells_sent : (w : Rehearsal) (p k : ℕ) (r : Refusal) (e : Envelope) → at_serial (state_of w).sent k ≡ Some e →
     (r ≡ refusal.StillWaiting → has_serial k (line_of w p) ≡ true) → TellsLetter w p k r (letter_facts w k (Some (without_value e)) r)
-tells_sent w p k r e is waits = record {
-  facts = Carries k e.wire ∷ receiver e.to r ∷ leaving_facts w k r;
-  is = letter_shape (serial_text w k) (place_text e.to r) (leaving_text w k r)
-      ∙ ap (λ l. l ++ (place_text e.to r ++ leaving_text w k r)) (carried_is w k e is)
-      ∙ ap (λ l. fact_text (Carries k e.wire) ++ (l ++ leaving_text w k r)) (place_is e.to r)
-      ∙ ap (λ l. fact_text (Carries k e.wire) ++ (fact_text (receiver e.to r) ++ l)) (leaving_is w k r);
-  are = ((refl, (e, is, refl)), (place_true w p k r e is waits, leaving_true w p k r));
-  these = subst (λ o. NameLetter w k r o (Carries k e.wire ∷ receiver e.to r ∷ leaving_facts w k r)) (sym is)
-      (leaving_facts w k r, refl, leaving_named w k r);
-}
+tells_sent w p k r e is waits =
+    let left = tells_leaving w p k r in
+    record {
+      facts = Carries k e.wire ∷ receiver e.to r ∷ left.facts;
+      is = letter_shape (serial_text w k) (place_text e.to r) (leaving_text w k r)
+          ∙ ap (λ l. l ++ (place_text e.to r ++ leaving_text w k r)) (carried_is w k e is)
+          ∙ ap (λ l. fact_text (Carries k e.wire) ++ (l ++ leaving_text w k r)) (place_is e.to r)
+          ∙ ap (λ l. fact_text (Carries k e.wire) ++ (fact_text (receiver e.to r) ++ l)) left.is;
+      are = ((refl, (e, is, refl)), (place_true w p k r e is waits, left.are));
+      these = subst (λ o. NameLetter w k r o (Carries k e.wire ∷ receiver e.to r ∷ left.facts)) (sym is) (left.facts, refl, left.these);
+    }
 
 tells_unsent : (w : Rehearsal) (p k : ℕ) (r : Refusal) → at_serial (state_of w).sent k ≡ None →
     TellsLetter w p k r (letter_facts w k None r)

@@ -2,12 +2,14 @@ pub mod Answering
 pub mod ArrowLists
 pub mod ArrowTexts
 pub mod ArrowWays
+pub mod Cases
 pub mod Deeds
 pub mod Documents
 pub mod Drawing
 pub mod DrawnArrows
 pub mod DrawnTexts
 pub mod Expecting
+pub mod Finding
 pub mod Hearing
 pub mod Lasting
 pub mod LetterFacts

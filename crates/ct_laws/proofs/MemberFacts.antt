@@ -1,12 +1,12 @@
 -- The facts of a member are true.
-use Rattle.std.proofs.Common.{◌≡◌, ◌⊎◌, inl, inr, ◌<◌, ◌≤◌, ◌==◌, ℕ, zero, suc, Bool, true, false, List, [], ◌∷◌, ◌++◌, refl, ap, ap₂}
-use Rattle.std.proofs.Common.{sym, ◌∙◌, subst, append_assoc, append-nil, arith, codes, decimal, length, find, filter_map, eqb-true}
+use Rattle.std.proofs.Common.{◌≡◌, ◌⊎◌, inl, inr, ◌≤◌, ◌==◌, ℕ, zero, suc, Bool, true, false, List, [], ◌∷◌, ◌++◌, refl, ap, ap₂}
+use Rattle.std.proofs.Common.{sym, ◌∙◌, subst, append_assoc, append-nil, arith, codes, decimal, length, filter_map, eqb-true}
 use Rattle.std.proofs.lemmas.Bool.Decides.{nat_tests}
 use Rattle.std.proofs.lemmas.List.Elements.{All-append, All-cons, All-nil}
 use Rattle.std.proofs.Math.Nat.{eq-or-lt_of_le}
 use Rattle.std.specs.List.{concat}
 use Rattle.std.specs.Option.{option_map_or}
-use Rattle.std.specs.Prelude.{All, if◌then◌else◌, Option, Some, None, is_some, option_and_then, option_map, unwrap_or}
+use Rattle.std.specs.Prelude.{All, if◌then◌else◌, Option, Some, None, option_and_then, option_map}
 use Rattle.ct_names.specs.Group.{IsMember, coordinator, everyone, is_member}
 use Rattle.ct_names.specs.Membership.{IsIn}
 use Rattle.ct_names.specs.Value.{Value}
@@ -22,15 +22,16 @@ use Rattle.ct_model.specs.Rehearsal.{Rehearsal}
 use Rattle.ct_model.specs.declared.phase.Phase.{Phase}
 use Rattle.ct_model.specs.declared.wire.Wire.TheVariants.{Ack, Est, Nack}
 use Rattle.ct_model.proofs.Consensus.Readings.{acked-of, acker-got, estimates-got}
-use Rattle.ct_world.specs.Standing.{acked_by, estimate_by, heard_by, replied_by}
+use Rattle.ct_world.specs.Standing.{heard_by}
 use Rattle.ct_world.specs.World.{if_member, member_of}
 use Rattle.ct_show.specs.Details.{acks_text, coordinator_text, size_of}
 use Rattle.ct_text.specs.Standing.{coordinator_of, estimate_of, instance_of, round_of}
-use Rattle.ct_show.specs.Facts.{first_heard, heard_text, led_text, member_facts, part_text, phase_in, place_in, votes_text}
-use Rattle.ct_text.specs.Shapes.{estimate_text, phase_text}
-use Rattle.ct_laws.specs.Behind.{IsHeard, NamePlace, NameStanding, NamesHeard, TellsMember}
+use Rattle.ct_show.specs.Facts.{first_heard, heard_text, led_text, member_facts, phase_in, place_in, votes_text}
+use Rattle.ct_text.specs.Shapes.{estimate_text}
+use Rattle.ct_laws.specs.Behind.{IsHeard, NamePlace, NameStanding, NamesHeard, TellsMember, leader}
 use Rattle.ct_laws.specs.Facts.{AreMany, AreTrue, Fact, HasGot, fact_text, texts_of}
 use Rattle.ct_laws.specs.Facts.Fact.{Acked, Began, Heard, Holds, Idle, InRound, LedBy}
+use Rattle.ct_laws.proofs.Finding.{find_there}
 
 -- ---- lists of facts
 
@@ -47,19 +48,10 @@ true_joined w p k refusal (fact ∷ a) b h more = (h.0, true_joined w p k refusa
 -- ---- what is read of a member of the group
 
 pub is_there : (n p : ℕ) → IsMember n p → is_member n p ≡ true
-is_there n p h =
-    let low : 1 ≤ p = h.0 in
-    let high : p ≤ n = h.1 in
-    grind (arith, nat_tests)
+is_there n p h = grind (arith, nat_tests)
 
 pub of_group : {A : Type 0} (w : Rehearsal) (p : ℕ) (x : Option A) → IsMember w.setting.members p → if_member w p x ≡ x
 of_group w p x h = ap (λ b. if b then x else None) (is_there w.setting.members p h)
-
-instance_is : (w : Rehearsal) (p : ℕ) → IsMember w.setting.members p → instance_of w p ≡ (member_of w p).last
-unfolding instance_of
-instance_is w p h =
-    ap (λ b. (unwrap_or {T = ℕ × Bool} (if b then Some ((member_of w p).last, is_some (member_of w p).current) else None) (0, false)).0)
-    (is_there w.setting.members p h)
 
 -- ---- estimates that it heard
 
@@ -116,16 +108,6 @@ all_true w p k refusal c (suc q) there is =
 
 -- ---- each that it heard is named
 
-found_if : {A : Type 0} (test : A → Bool) (x y : A) (xs : List A) (b : Bool) → test y ≡ b → (x ≡ y) ⊎ IsIn x xs → test x ≡ true →
-    (IsIn x xs → (z : A) × (find test xs ≡ Some z)) → (z : A) × ((if b then Some y else find test xs) ≡ Some z)
-found_if test x y xs true is h so more = (y, refl)
-found_if test x y xs false is (inl same) so more = absurd (cc (sym so ∙ ap test same ∙ is))
-found_if test x y xs false is (inr h) so more = more h
-
-find_there : {A : Type 0} (test : A → Bool) (x : A) (xs : List A) → IsIn x xs → test x ≡ true → (z : A) × (find test xs ≡ Some z)
-find_there test x [] h so = absurd h
-find_there test x (y ∷ xs) h so = found_if test x y xs (test y) refl h so (λ more. find_there test x xs more so)
-
 pub got_heard : (got : List Wire) (k r q : ℕ) (v : Value) (ts : ℕ) → IsIn q everyone → IsIn (Est k r q v ts) got →
     (e : HeardOf Value) × (estimate_from (ballots got k r) q ≡ Some e)
 unfolding ballots
@@ -143,25 +125,20 @@ unfolding heard_fact
 in_fact q None e is = absurd (cc is)
 in_fact q (Some x) e is = (x.0, x.1, inl refl)
 
-named_by : (w : Rehearsal) (p q n : ℕ) → (q ≡ suc n) ⊎ (q < suc n) → (q < suc n → NamesHeard q (heard_facts w p n)) →
-    NamesHeard q (heard_fact q (if_member w p (heard_by (member_of w p) q))) → NamesHeard q (heard_facts w p (suc n))
-unfolding heard_facts
-named_by w p q n (inl same) before here =
-    let last = heard_fact (suc n) (if_member w p (heard_by (member_of w p) (suc n))) in
-    let named = subst (λ i. NamesHeard i (heard_fact i (if_member w p (heard_by (member_of w p) i)))) same here in
-    let names : NamesHeard (suc n) (heard_facts w p n ++ last) =
-    (named.0, named.1, IsIn-append_right (Heard (suc n) named.0 named.1) (heard_facts w p n) last named.2) in
-    subst (λ i. NamesHeard i (heard_facts w p n ++ last)) (sym same) names
-named_by w p q n (inr less) before here =
-    let last = heard_fact (suc n) (if_member w p (heard_by (member_of w p) (suc n))) in
-    let named = before less in
-    (named.0, named.1, IsIn-append_left (Heard q named.0 named.1) (heard_facts w p n) last named.2)
-
 named_in : (w : Rehearsal) (p q n : ℕ) → 1 ≤ q → q ≤ n → NamesHeard q (heard_fact q (if_member w p (heard_by (member_of w p) q))) →
     NamesHeard q (heard_facts w p n)
+unfolding heard_facts
 named_in w p q zero low high here = absurd (omega (arith, low, high))
 named_in w p q (suc n) low high here =
-    named_by w p q n (eq-or-lt_of_le high) (λ less. named_in w p q n low (omega (arith, less)) here) here
+    let last = heard_fact (suc n) (if_member w p (heard_by (member_of w p) (suc n))) in
+    elim (eq-or-lt_of_le high) [
+      | inl same ↦
+          let here_too = subst (λ i. NamesHeard q (heard_fact i (if_member w p (heard_by (member_of w p) i)))) same here in
+          (here_too.0, here_too.1, IsIn-append_right (Heard q here_too.0 here_too.1) (heard_facts w p n) last here_too.2)
+      | inr less ↦
+          let named = named_in w p q n low (omega (arith, less)) here in
+          (named.0, named.1, IsIn-append_left (Heard q named.0 named.1) (heard_facts w p n) last named.2)
+    ]
 
 each_named : (w : Rehearsal) (p q : ℕ) (c : Standing) (v : Value) (ts : ℕ) → IsMember w.setting.members p →
     (member_of w p).current ≡ Some c → IsMember w.setting.members q → IsIn q everyone →
@@ -186,17 +163,11 @@ acks_many got k r = record {
   size = ap length (sym (acked-of got k r));
 }
 
-reply_wire : (k r q : ℕ) (wire : Wire) → is_reply k r q wire ≡ true → (wire ≡ Ack k r q) ⊎ (wire ≡ Nack k r q)
-reply_wire k r q (Ack i s p) h = inl (grind (arith, nat_tests))
-reply_wire k r q (Nack i s p) h = inr (grind (arith, nat_tests))
-reply_wire k r q _ h = absurd (cc h)
-
 abbrev IsReply : List Wire → ℕ → ℕ → ℕ → Type 0
 IsReply got k r q = IsIn (Ack k r q) got ⊎ IsIn (Nack k r q) got
 
-reply_got : (got : List Wire) (k r q : ℕ) (wire : Wire) → IsIn wire got → (wire ≡ Ack k r q) ⊎ (wire ≡ Nack k r q) → IsReply got k r q
-reply_got got k r q wire h (inl same) = inl (subst (λ x. IsIn x got) same h)
-reply_got got k r q wire h (inr same) = inr (subst (λ x. IsIn x got) same h)
+reply_got : (got : List Wire) (k r q : ℕ) (wire : Wire) → IsIn wire got → is_reply k r q wire ≡ true → IsReply got k r q
+reply_got got k r q wire h is = grind (arith, nat_tests)
 
 got_reply : (got : List Wire) (k r q : ℕ) → IsReply got k r q → has_reply got k r q ≡ true
 got_reply got k r q (inl h) = list_any-found (is_reply k r q) (Ack k r q) got h (grind (arith, nat_tests))
@@ -210,7 +181,7 @@ replies_many got k r = record {
   all = λ q one h. IsIn-filter (has_reply got k r) q everyone (got_reply got k r q h) one;
   only = λ q h.
       let f = found-list_any (is_reply k r q) got (IsIn-filter_passes (has_reply got k r) q everyone h) in
-      reply_got got k r q f.item f.is_in (reply_wire k r q f.item f.passes);
+      reply_got got k r q f.item f.is_in f.passes;
   size = refl;
 }
 
@@ -225,131 +196,87 @@ open_shape : (a b c d e f g h : List ℕ) →
     ≡ (a ++ (b ++ [])) ++ (c ++ (d ++ ((e ++ (f ++ [])) ++ (g ++ (h ++ [])))))
 open_shape a b c d e f g h = simp (append_assoc, append-nil) refl
 
-led_facts : ℕ → ℕ → List Fact
-led_facts r p = if r == 0 then [] else LedBy p ∷ []
-
-led_by : (b : Bool) (r p : ℕ) → (if b then [] else coordinator_text p) ≡ texts_of (if b then [] else LedBy p ∷ [])
+led_by : (b : Bool) (p : ℕ) → (if b then [] else coordinator_text p) ≡ texts_of (if b then [] else LedBy p ∷ [])
 unfolding coordinator_text
-led_by true r p = refl
-led_by false r p = sym (append-nil _)
+led_by true p = refl
+led_by false p = sym (append-nil _)
 
-led_is : (r p : ℕ) → led_text r p ≡ texts_of (led_facts r p)
-unfolding led_facts
-led_is r p = led_by (r == 0) r p
-
-led_if : (b : Bool) (w : Rehearsal) (p k : ℕ) (refusal : Refusal) (c : Standing) → (member_of w p).current ≡ Some c →
+led_true : (b : Bool) (w : Rehearsal) (p k : ℕ) (refusal : Refusal) (c : Standing) → (member_of w p).current ≡ Some c →
     AreTrue w p k refusal (if b then [] else LedBy (coordinator w.setting.members c.round) ∷ [])
-led_if true w p k refusal c is = tt
-led_if false w p k refusal c is = ((c, is, refl), tt)
-
-led_true : (w : Rehearsal) (p k : ℕ) (refusal : Refusal) (c : Standing) → (member_of w p).current ≡ Some c →
-    AreTrue w p k refusal (led_facts c.round (coordinator w.setting.members c.round))
-unfolding led_facts
-led_true w p k refusal c is = led_if (c.round == 0) w p k refusal c is
+led_true true w p k refusal c is = tt
+led_true false w p k refusal c is = ((c, is, refl), tt)
 
 -- what is told where an instance is open
 open_facts : Rehearsal → ℕ → Standing → List Fact
 open_facts w p c =
     let m = member_of w p in
-    Began m.last ∷ InRound c.round c.phase ∷ (led_facts c.round (coordinator w.setting.members c.round)
+    Began m.last ∷ InRound c.round c.phase ∷ (leader w.setting.members c.round
     ++ (Holds c.estimate c.ts ∷ (heard_facts w p w.setting.members
     ++ Acked (length (own_ballots m c).acked) (length (own_ballots m c).replied) ∷ [])))
 
--- where the member has these, its text is of those
-told_text : (i r : ℕ) (phase : Phase) (q : ℕ) (estimate : Option (Value × ℕ)) (heard : List ℕ) (acks replies : ℕ) → List ℕ
-told_text i r phase q estimate heard acks replies =
-    concat (codes "instance " ∷ decimal i ∷ concat (concat (concat (codes " round " ∷ decimal r ∷ codes " " ∷ phase_text phase ∷ [])
-    ∷ led_text r q ∷ []) ∷ concat (codes ", estimate " ∷ estimate_text estimate ∷ heard
-    ∷ concat (codes "," ∷ codes " acks " ∷ decimal acks ∷ codes " of " ∷ decimal replies ∷ []) ∷ []) ∷ []) ∷ [])
+of_open : {A : Type 0} (w : Rehearsal) (p : ℕ) (c : Standing) (f : Standing → A) → IsMember w.setting.members p →
+    (member_of w p).current ≡ Some c → if_member w p (option_map f (member_of w p).current) ≡ Some (f c)
+of_open w p c f there is = of_group w p (option_map f (member_of w p).current) there ∙ ap (option_map f) is
 
-abbrev place : Standing → ℕ × Phase
-place c = (c.round, c.phase)
-
-same_place : (w : Rehearsal) (p : ℕ) (c : Standing) → IsMember w.setting.members p → (member_of w p).current ≡ Some c →
-    if_member {A = ℕ × Phase} w p (option_map (λ c. (c.round, c.phase)) (member_of w p).current) ≡ Some (c.round, c.phase)
-same_place w p c there is =
-    of_group w p (option_map place (member_of w p).current) there ∙ ap (option_map place) is
-
-same_round : (w : Rehearsal) (p : ℕ) (c : Standing) → IsMember w.setting.members p → (member_of w p).current ≡ Some c →
+leads_is : (w : Rehearsal) (p : ℕ) (c : Standing) → IsMember w.setting.members p → (member_of w p).current ≡ Some c →
     coordinator_of w p ≡ coordinator w.setting.members c.round
 unfolding coordinator_of round_of
-same_round w p c there is =
-    ap (λ o. coordinator w.setting.members (option_map_or (λ (r : ℕ × Phase). r.0) o 0)) (same_place w p c there is)
+leads_is w p c there is =
+    ap (λ o. coordinator w.setting.members (option_map_or (λ (r : ℕ × Phase). r.0) o 0))
+    (of_open w p c (λ c. (c.round, c.phase)) there is)
 
-same_estimate : (w : Rehearsal) (p : ℕ) (c : Standing) → IsMember w.setting.members p → (member_of w p).current ≡ Some c →
-    if_member w p (estimate_by (member_of w p)) ≡ Some (c.estimate, c.ts)
-same_estimate w p c there is =
-    of_group w p (estimate_by (member_of w p)) there ∙ ap (option_map (λ c. (c.estimate, c.ts))) is
+held_is : (w : Rehearsal) (p : ℕ) (c : Standing) → IsMember w.setting.members p → (member_of w p).current ≡ Some c →
+    estimate_of w p ≡ estimate_text (Some (c.estimate, c.ts))
+unfolding estimate_of
+held_is w p c there is = ap estimate_text (of_open w p c (λ c. (c.estimate, c.ts)) there is)
 
-same_acks : (w : Rehearsal) (p : ℕ) (c : Standing) → IsMember w.setting.members p → (member_of w p).current ≡ Some c →
-    size_of (if_member w p (acked_by (member_of w p))) ≡ length (own_ballots (member_of w p) c).acked
-unfolding size_of
-same_acks w p c there is =
-    ap (λ o. option_map_or (λ (l : List ℕ). length l) o 0) (of_group w p (acked_by (member_of w p)) there
-    ∙ ap (option_map (λ c. (own_ballots (member_of w p) c).acked)) is)
-
-same_replies : (w : Rehearsal) (p : ℕ) (c : Standing) → IsMember w.setting.members p → (member_of w p).current ≡ Some c →
-    size_of (if_member w p (replied_by (member_of w p))) ≡ length (own_ballots (member_of w p) c).replied
-unfolding size_of
-same_replies w p c there is =
-    ap (λ o. option_map_or (λ (l : List ℕ). length l) o 0) (of_group w p (replied_by (member_of w p)) there
-    ∙ ap (option_map (λ c. (own_ballots (member_of w p) c).replied)) is)
-
--- the text, with the parts that the member has
-member_text : (w : Rehearsal) (p : ℕ) (r : Option (ℕ × Phase)) →
-    if_member {A = ℕ × Phase} w p (option_map (λ c. (c.round, c.phase)) (member_of w p).current) ≡ r →
-    member_facts w p ≡ concat (codes "instance " ∷ decimal (instance_of w p) ∷ part_text w p r ∷ [])
-unfolding member_facts
-member_text w p r is = ap (λ o. concat (codes "instance " ∷ decimal (instance_of w p) ∷ part_text w p o ∷ [])) is
-
-open_text : (w : Rehearsal) (p : ℕ) (c : Standing) → IsMember w.setting.members p → (member_of w p).current ≡ Some c →
-    member_facts w p ≡ told_text (instance_of w p) c.round c.phase (coordinator_of w p) (if_member w p (estimate_by (member_of w p)))
-    (first_heard (codes ", heard ") (codes "") w p w.setting.members) (size_of (if_member w p (acked_by (member_of w p))))
-    (size_of (if_member w p (replied_by (member_of w p))))
-unfolding told_text place_in votes_text phase_in estimate_of acks_text
-open_text w p c there is = member_text w p (Some (c.round, c.phase)) (same_place w p c there is)
-
-told_same : (i j r : ℕ) (phase : Phase) (q p : ℕ) (e f : Option (Value × ℕ)) (heard those : List ℕ) (acks a replies b : ℕ) → i ≡ j → q ≡ p →
-    e ≡ f → heard ≡ those → acks ≡ a → replies ≡ b → told_text i r phase q e heard acks replies ≡ told_text j r phase p f those a b
-told_same i j r phase q p e f heard those acks a replies b is leads holds hears acked replied = cc
-
-told_is : (w : Rehearsal) (p : ℕ) (c : Standing) → IsMember w.setting.members p → (member_of w p).current ≡ Some c →
-    member_facts w p ≡ told_text (member_of w p).last c.round c.phase (coordinator w.setting.members c.round) (Some (c.estimate, c.ts))
-    (texts_of (heard_facts w p w.setting.members)) (length (own_ballots (member_of w p) c).acked)
-    (length (own_ballots (member_of w p) c).replied)
-told_is w p c there is =
-    open_text w p c there is
-    ∙ told_same (instance_of w p) (member_of w p).last c.round c.phase (coordinator_of w p) (coordinator w.setting.members c.round)
-    (if_member w p (estimate_by (member_of w p))) (Some (c.estimate, c.ts))
-    (first_heard (codes ", heard ") (codes "") w p w.setting.members)
-    (texts_of (heard_facts w p w.setting.members)) (size_of (if_member w p (acked_by (member_of w p))))
-    (length (own_ballots (member_of w p) c).acked) (size_of (if_member w p (replied_by (member_of w p))))
-    (length (own_ballots (member_of w p) c).replied) (instance_is w p there) (same_round w p c there is) (same_estimate w p c there is)
-    (all_heard w p w.setting.members) (same_acks w p c there is) (same_replies w p c there is)
-
-facts_shape : (w : Rehearsal) (p : ℕ) (c : Standing) →
-    told_text (member_of w p).last c.round c.phase (coordinator w.setting.members c.round) (Some (c.estimate, c.ts))
-    (texts_of (heard_facts w p w.setting.members)) (length (own_ballots (member_of w p) c).acked)
-    (length (own_ballots (member_of w p) c).replied) ≡ texts_of (open_facts w p c)
-unfolding told_text open_facts
-facts_shape w p c =
+votes_is : (w : Rehearsal) (p : ℕ) (c : Standing) → IsMember w.setting.members p → (member_of w p).current ≡ Some c →
+    acks_text (codes ",") w p
+    ≡ fact_text (Acked (length (own_ballots (member_of w p) c).acked) (length (own_ballots (member_of w p) c).replied))
+unfolding acks_text size_of
+votes_is w p c there is =
     let m = member_of w p in
-    let led = led_facts c.round (coordinator w.setting.members c.round) in
+    ap₂ (λ a b. concat (codes "," ∷ codes " acks " ∷ decimal (option_map_or (λ (l : List ℕ). length l) a 0) ∷ codes " of "
+    ∷ decimal (option_map_or (λ (l : List ℕ). length l) b 0) ∷ [])) (of_open w p c (λ c. (own_ballots m c).acked) there is)
+    (of_open w p c (λ c. (own_ballots m c).replied) there is)
+
+open_told : (w : Rehearsal) (p : ℕ) (c : Standing) → IsMember w.setting.members p → (member_of w p).current ≡ Some c →
+    member_facts w p ≡ texts_of (open_facts w p c)
+unfolding open_facts member_facts instance_of place_in votes_text phase_in
+open_told w p c there is =
+    let m = member_of w p in
+    let leads = coordinator w.setting.members c.round in
     let heard = heard_facts w p w.setting.members in
-    let acks = Acked (length (own_ballots m c).acked) (length (own_ballots m c).replied) ∷ [] in
-    let parts = open_shape (codes "instance ") (decimal m.last) (fact_text (InRound c.round c.phase))
-    (led_text c.round (coordinator w.setting.members c.round)) (codes ", estimate ") (estimate_text (Some (c.estimate, c.ts)))
-    (texts_of heard) (fact_text (Acked (length (own_ballots m c).acked) (length (own_ballots m c).replied))) in
-    let behind = ap₂ (λ a b. a ++ (fact_text (Holds c.estimate c.ts) ++ b)) (led_is c.round (coordinator w.setting.members c.round))
-    (sym (texts_joined heard acks)) ∙ sym (texts_joined led (Holds c.estimate c.ts ∷ (heard ++ acks))) in
-    parts ∙ ap (λ l. fact_text (Began m.last) ++ (fact_text (InRound c.round c.phase) ++ l)) behind
+    let acks = Acked (length (own_ballots m c).acked) (length (own_ballots m c).replied) in
+    let parts = open_shape (codes "instance ") (decimal m.last) (fact_text (InRound c.round c.phase)) (led_text c.round leads)
+    (codes ", estimate ") (estimate_text (Some (c.estimate, c.ts))) (texts_of heard) (fact_text acks) in
+    let behind = ap₂ (λ a b. a ++ (fact_text (Holds c.estimate c.ts) ++ b)) (led_by (c.round == 0) leads)
+    (sym (texts_joined heard (acks ∷ [])))
+    ∙ sym (texts_joined (leader w.setting.members c.round) (Holds c.estimate c.ts ∷ (heard ++ acks ∷ []))) in
+    rw (
+      is_there w.setting.members p there,
+      is,
+      all_heard w p w.setting.members,
+      instance_of,
+      leads_is w p c there is,
+      held_is w p c there is,
+      votes_is w p c there is,
+    )
+    (parts ∙ ap (λ l. fact_text (Began m.last) ++ (fact_text (InRound c.round c.phase) ++ l)) behind)
+
+idle_told : (w : Rehearsal) (p : ℕ) → IsMember w.setting.members p → (member_of w p).current ≡ None →
+    member_facts w p ≡ texts_of (Began (member_of w p).last ∷ Idle ∷ [])
+unfolding member_facts instance_of
+idle_told w p there is =
+    rw (is_there w.setting.members p there, is, instance_of)
+    (idle_shape (codes "instance ") (decimal (member_of w p).last) (codes " idle"))
 
 open_true : (w : Rehearsal) (p : ℕ) (c : Standing) (k : ℕ) (refusal : Refusal) → IsMember w.setting.members p →
     (member_of w p).current ≡ Some c → AreTrue w p k refusal (open_facts w p c)
 unfolding open_facts
 open_true w p c k refusal there is =
     let m = member_of w p in
-    let led = led_facts c.round (coordinator w.setting.members c.round) in
+    let led = leader w.setting.members c.round in
     let heard = heard_facts w p w.setting.members in
     let acks = Acked (length (own_ballots m c).acked) (length (own_ballots m c).replied) ∷ [] in
     let replied : AreTrue w p k refusal acks =
@@ -357,7 +284,7 @@ open_true w p c k refusal there is =
       refl,
       (
         (c, is, (refl, refl)),
-        true_joined w p k refusal led (Holds c.estimate c.ts ∷ (heard ++ acks)) (led_true w p k refusal c is)
+        true_joined w p k refusal led (Holds c.estimate c.ts ∷ (heard ++ acks)) (led_true (c.round == 0) w p k refusal c is)
             ((c, is, (refl, refl)), true_joined w p k refusal heard acks (all_true w p k refusal c w.setting.members there is) replied),
       ),
     )
@@ -378,7 +305,7 @@ all_only w p (suc q) =
 
 open_named : (w : Rehearsal) (p : ℕ) (c : Standing) → IsMember w.setting.members p → (member_of w p).current ≡ Some c →
     NameStanding w p c (open_facts w p c)
-unfolding open_facts led_facts
+unfolding open_facts
 open_named w p c there is = record {
   heard = heard_facts w p w.setting.members;
   acks = length (own_ballots (member_of w p) c).acked;
@@ -388,32 +315,20 @@ open_named w p c there is = record {
   each = λ q v ts member one h. each_named w p q c v ts there is member one h;
 }
 
-tells_open : (w : Rehearsal) (p : ℕ) (c : Standing) → IsMember w.setting.members p → (member_of w p).current ≡ Some c →
+tells_by : (w : Rehearsal) (p : ℕ) (o : Option Standing) → IsMember w.setting.members p → (member_of w p).current ≡ o →
     TellsMember w p (member_facts w p)
-tells_open w p c there is = record {
+tells_by w p None there is = record {
+  facts = Began (member_of w p).last ∷ Idle ∷ [];
+  is = idle_told w p there is;
+  are = λ k refusal. (refl, (is, tt));
+  these = subst (λ o. NamePlace w p o (Began (member_of w p).last ∷ Idle ∷ [])) (sym is) refl;
+}
+tells_by w p (Some c) there is = record {
   facts = open_facts w p c;
-  is = told_is w p c there is ∙ facts_shape w p c;
+  is = open_told w p c there is;
   are = λ k refusal. open_true w p c k refusal there is;
   these = subst (λ o. NamePlace w p o (open_facts w p c)) (sym is) (open_named w p c there is);
 }
-
-tells_idle : (w : Rehearsal) (p : ℕ) → IsMember w.setting.members p → (member_of w p).current ≡ None → TellsMember w p (member_facts w p)
-tells_idle w p there is =
-    let m = member_of w p in
-    let none = of_group w p (option_map place m.current) there ∙ ap (option_map place) is in
-    record {
-      facts = Began m.last ∷ Idle ∷ [];
-      is = member_text w p None none
-          ∙ ap (λ i. concat (codes "instance " ∷ decimal i ∷ codes " idle" ∷ [])) (instance_is w p there)
-          ∙ idle_shape (codes "instance ") (decimal m.last) (codes " idle");
-      are = λ k refusal. (refl, (is, tt));
-      these = subst (λ o. NamePlace w p o (Began m.last ∷ Idle ∷ [])) (sym is) refl;
-    }
-
-tells_by : (w : Rehearsal) (p : ℕ) (o : Option Standing) → IsMember w.setting.members p → (member_of w p).current ≡ o →
-    TellsMember w p (member_facts w p)
-tells_by w p None there is = tells_idle w p there is
-tells_by w p (Some c) there is = tells_open w p c there is
 
 pub tells_member : (w : Rehearsal) (p : ℕ) → IsMember w.setting.members p → TellsMember w p (member_facts w p)
 tells_member w p there = tells_by w p (member_of w p).current there refl

@@ -1,39 +1,24 @@
 -- Where a schedule is refused.
-use Rattle.std.proofs.Common.{◌≡◌, inl, inr, ℕ, ◌+◌, List, [], ◌∷◌, ◌++◌, length, refl, ap, sym, ◌∙◌, subst, arith}
-use Rattle.std.specs.Prelude.{codes, Option, Some, None, Result, Ok, Err}
+use Rattle.std.proofs.Common.{◌≡◌, inl, inr, ℕ, ◌+◌, List, [], ◌∷◌, length, refl, ap, sym, ◌∙◌, subst, arith}
+use Rattle.std.specs.Prelude.{codes, Option, Result, Ok, Err}
 use Rattle.ct_model.specs.Rehearsal.{Rehearsal}
 use Rattle.ct_grammar.specs.Texts.{lines_of}
 use Rattle.ct_play.specs.Acting.{go_on}
 use Rattle.ct_play.specs.Played.{Played}
 use Rattle.ct_play.specs.declared.line_fault.LineFault.{LineFault}
 use Rattle.ct_play.specs.declared.line_fault.LineFault.TheVariants.{NoMembers}
-use Rattle.ct_judging.specs.Reading.{shown}
-use Rattle.ct_judging.specs.Schedule.{Progress, Stopped, after_line, after_lines, beginning, finished, line_over, schedule, world_at}
-use Rattle.ct_judging.specs.Standing.{Standing, made_of, played_of, played_or_made, record_in, world_of}
-use Rattle.ct_judging.specs.Telling.{Explained, told}
+use Rattle.ct_judging.specs.Schedule.{Progress, Stopped, after_line, after_lines, beginning, finished, schedule, world_at}
+use Rattle.ct_judging.specs.Standing.{played_of, played_or_made, record_in, world_of}
 use Rattle.ct_judging.specs.declared.heading.Heading.{Heading}
 use Rattle.ct_laws.specs.Refusals.{HasNoMembers, IsRefused, IsRefusedAt}
 
-over_number : (t u : Progress) (line : List ℕ) (r : Result Standing Explained) → line_over t line r ≡ Ok u → u.number ≡ t.number + 1
-over_number t u line (Ok s) h =
-    let same : record { standing = s; number = t.number + 1 } ≡ u = cc h in
-    sym (ap (λ (v : Progress). v.number) same)
-over_number t u line (Err e) h = absurd (cc h)
-
-over_at : (t : Progress) (stopped : Stopped) (line : List ℕ) (r : Result Standing Explained) → line_over t line r ≡ Err stopped →
-    stopped.at ≡ t.number + 1
-over_at t stopped line (Ok s) h = absurd (cc h)
-over_at t stopped line (Err e) h =
-    let same : record { at = t.number + 1; fault = e.fault; text = shown line ++ e.text } ≡ stopped = cc h in
-    sym (ap (λ (v : Stopped). v.at) same)
-
 line_number : (t u : Progress) (line : List ℕ) → after_line t line ≡ Ok u → u.number ≡ t.number + 1
 unfolding after_line
-line_number t u line h = over_number t u line (told t.standing line) h
+line_number t u line h = grind arith
 
 line_at : (t : Progress) (stopped : Stopped) (line : List ℕ) → after_line t line ≡ Err stopped → stopped.at ≡ t.number + 1
 unfolding after_line
-line_at t stopped line h = over_at t stopped line (told t.standing line) h
+line_at t stopped line h = grind arith
 
 refused_on : (t u : Progress) (line : List ℕ) (lines : List (List ℕ)) (stopped : Stopped) → after_line t line ≡ Ok u →
     IsRefusedAt u lines stopped → IsRefusedAt t (line ∷ lines) stopped
@@ -98,13 +83,8 @@ numbered (line ∷ lines) t u h = numbered_by t u line lines (after_line t line)
 
 -- ---- no members
 
-made_fault : (h : Heading) (o : Option ℕ) (fault : LineFault) → record_in (made_of h o) ≡ Err fault → fault ≡ NoMembers
-made_fault h None fault is = sym (cc is)
-made_fault h (Some n) fault is = absurd (cc is)
-
 world_fault : (h : Heading) (o : Option Played) (fault : LineFault) → record_in (played_or_made h o) ≡ Err fault → fault ≡ NoMembers
-world_fault h None fault is = made_fault h h.group fault is
-world_fault h (Some p) fault is = absurd (cc is)
+world_fault h o fault is = grind arith
 
 no_world : (lines : List (List ℕ)) (t : Progress) (stopped : Stopped) (r : Result Rehearsal LineFault) →
     after_lines beginning lines ≡ Ok t →

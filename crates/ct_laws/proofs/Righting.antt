@@ -7,7 +7,6 @@ use Rattle.std.specs.Option.{option_or}
 use Rattle.std.specs.Prelude.{nat_lt, if◌then◌else◌, Option, Some, None, slice_get}
 use Rattle.ct_names.specs.Value.{Value}
 use Rattle.ct_names.specs.declared.limit.Limit.{Limit}
-use Rattle.ct_names.specs.declared.limit.Limit.TheVariants as limits
 use Rattle.ct_names.specs.declared.limit.TheConstants.{MAX_CELLS}
 use Rattle.ct_names.specs.declared.refusal.Refusal.TheVariants.{Full, NoProposal, NotLargest}
 use Rattle.ct_model.specs.Actor.{actor}
@@ -19,25 +18,25 @@ use Rattle.ct_world.specs.World.{member_of, if_member}
 use Rattle.ct_text.specs.Standing.{instance_of}
 use Rattle.ct_show.specs.Wires.{letter_at}
 use Rattle.ct_judging.specs.Rights.{larger_of, largest_heard, largest_of, last_proposal, proposal_in, proposed_in, right_of}
-use Rattle.ct_judging.specs.declared.right.Right.TheVariants.{Largest, MoreCells, Proposal, Untold}
+use Rattle.ct_judging.specs.declared.right.Right.TheVariants.{Largest, MoreCells, Proposal}
 use Rattle.ct_laws.specs.Rights.{HasProposal, Hears, IsLargest}
 
 -- ---- the largest ts
 
--- the same among the first members
+-- what was heard of the first members has such a ts
+abbrev AllHeard : Rehearsal → ℕ → ℕ → (ℕ → Type 0) → Type 0
+AllHeard w p k P = (other : ℕ) (v : Value) (more : ℕ) → 1 ≤ other → other ≤ k → Hears w p other v more → P more
+
+-- the largest among the first members
 record IsLargestTo (w : Rehearsal) (p k q ts : ℕ) : Type 0 where
   pub low : 1 ≤ q
   pub high : q ≤ k
   pub heard : (v : Value) × Hears w p q v ts
-  pub largest : (other : ℕ) (v : Value) (more : ℕ) → 1 ≤ other → other ≤ k → Hears w p other v more → more ≤ ts
-
--- of none of the first members anything was heard
-abbrev HearsNone : Rehearsal → ℕ → ℕ → Type 0
-HearsNone w p k = (other : ℕ) (v : Value) (ts : ℕ) → 1 ≤ other → other ≤ k → Hears w p other v ts → ⊥
+  pub largest : AllHeard w p k (λ more. more ≤ ts)
 
 -- what is so of the first ones
 abbrev IsBest : Rehearsal → ℕ → ℕ → Option (ℕ × ℕ) → Type 0
-IsBest w p k None = HearsNone w p k
+IsBest w p k None = AllHeard w p k (λ _. ⊥)
 IsBest w p k (Some b) = IsLargestTo w p k b.0 b.1
 
 abbrev ts_in : Option (Value × ℕ) → ℕ
@@ -47,45 +46,24 @@ ts_in (Some e) = e.1
 same_ts : (o : Option (Value × ℕ)) (v u : Value) (ts more : ℕ) → o ≡ Some (v, ts) → o ≡ Some (u, more) → more ≡ ts
 same_ts o v u ts more one other = ap ts_in (sym other ∙ one)
 
-none_more : (w : Rehearsal) (p k : ℕ) → HearsNone w p k → if_member w p (heard_by (member_of w p) (suc k)) ≡ None → HearsNone w p (suc k)
-none_more w p k none here other v ts low high h = go (eq-or-lt_of_le high)
-  where
-    go : (other ≡ suc k) ⊎ (other < suc k) → ⊥
-    go (inl same) = cc (sym here ∙ subst (λ n. Hears w p n v ts) same h)
-    go (inr less) = none other v ts low (omega (arith, less)) h
+heard_on : (w : Rehearsal) (p k : ℕ) (P : ℕ → Type 0) → AllHeard w p k P → ((v : Value) (more : ℕ) → Hears w p (suc k) v more → P more) →
+    AllHeard w p (suc k) P
+heard_on w p k P before last other v more low high h = elim (eq-or-lt_of_le high) [
+  | inl same ↦ last v more (subst (λ n. Hears w p n v more) same h)
+  | inr less ↦ before other v more low (omega (arith, less)) h
+]
 
-first_one : (w : Rehearsal) (p k : ℕ) (e : Value × ℕ) → HearsNone w p k →
-    if_member w p (heard_by (member_of w p) (suc k)) ≡ Some e → IsLargestTo w p (suc k) (suc k) e.1
-first_one w p k e none here = record {
+-- one more, with a ts that is the largest, or not
+newest : (w : Rehearsal) (p k : ℕ) (e : Value × ℕ) → if_member w p (heard_by (member_of w p) (suc k)) ≡ Some e →
+    AllHeard w p k (λ more. more ≤ e.1) → IsLargestTo w p (suc k) (suc k) e.1
+newest w p k e here before = record {
   low = omega arith;
   high = omega arith;
   heard = (e.0, here);
-  largest = λ other v more low high h. go other v more low h (eq-or-lt_of_le high);
+  largest = heard_on w p k (λ more. more ≤ e.1) before (λ v more h.
+      let is : more ≡ e.1 = same_ts _ e.0 v e.1 more here h in
+      omega (arith, is));
 }
-  where
-    go : (other : ℕ) (v : Value) (more : ℕ) → 1 ≤ other → Hears w p other v more → (other ≡ suc k) ⊎ (other < suc k) → more ≤ e.1
-    go other v more low h (inl same) =
-        let is : more ≡ e.1 = same_ts _ e.0 v e.1 more here (subst (λ n. Hears w p n v more) same h) in
-        omega (arith, is)
-    go other v more low h (inr less) = absurd (none other v more low (omega (arith, less)) h)
-
--- one more, with a ts that is larger, or not
-next_one : (w : Rehearsal) (p k q ts : ℕ) (e : Value × ℕ) → IsLargestTo w p k q ts → ts < e.1 →
-    if_member w p (heard_by (member_of w p) (suc k)) ≡ Some e → IsLargestTo w p (suc k) (suc k) e.1
-next_one w p k q ts e best less here = record {
-  low = omega arith;
-  high = omega arith;
-  heard = (e.0, here);
-  largest = λ other v more low high h. go other v more low h (eq-or-lt_of_le high);
-}
-  where
-    go : (other : ℕ) (v : Value) (more : ℕ) → 1 ≤ other → Hears w p other v more → (other ≡ suc k) ⊎ (other < suc k) → more ≤ e.1
-    go other v more low h (inl same) =
-        let is : more ≡ e.1 = same_ts _ e.0 v e.1 more here (subst (λ n. Hears w p n v more) same h) in
-        omega (arith, is)
-    go other v more low h (inr before) =
-        let most : more ≤ ts = best.largest other v more low (omega (arith, before)) h in
-        omega (arith, most, less)
 
 same_one : (w : Rehearsal) (p k q ts : ℕ) → IsLargestTo w p k q ts →
     ((v : Value) (more : ℕ) → Hears w p (suc k) v more → more ≤ ts) → IsLargestTo w p (suc k) q ts
@@ -93,25 +71,24 @@ same_one w p k q ts best last = record {
   low = best.low;
   high = let high : q ≤ k = best.high in omega (arith, high);
   heard = best.heard;
-  largest = λ other v more low high h. go other v more low h (eq-or-lt_of_le high);
+  largest = heard_on w p k (λ more. more ≤ ts) best.largest last;
 }
-  where
-    go : (other : ℕ) (v : Value) (more : ℕ) → 1 ≤ other → Hears w p other v more → (other ≡ suc k) ⊎ (other < suc k) → more ≤ ts
-    go other v more low h (inl same) = last v more (subst (λ n. Hears w p n v more) same h)
-    go other v more low h (inr before) = best.largest other v more low (omega (arith, before)) h
 
 by_test : (w : Rehearsal) (p k : ℕ) (b : ℕ × ℕ) (e : Value × ℕ) (larger : Bool) → nat_lt b.1 e.1 ≡ larger → IsLargestTo w p k b.0 b.1 →
     if_member w p (heard_by (member_of w p) (suc k)) ≡ Some e →
     IsBest w p (suc k) (if larger then Some (suc k, e.1) else Some b)
-by_test w p k b e true is best here = next_one w p k b.0 b.1 e best (grind (arith, nat_tests)) here
-by_test w p k b e false is best here =
-    let most : e.1 ≤ b.1 = grind (arith, nat_tests) in
-    same_one w p k b.0 b.1 best (λ v more h. let is : more ≡ e.1 = same_ts _ e.0 v e.1 more here h in omega (arith, is, most))
+by_test w p k b e true is best here = newest w p k e here (λ other v more low high h.
+    let most : more ≤ b.1 = best.largest other v more low high h in
+    grind (arith, nat_tests))
+by_test w p k b e false is best here = same_one w p k b.0 b.1 best (λ v more h.
+    let same : more ≡ e.1 = same_ts _ e.0 v e.1 more here h in
+    grind (arith, nat_tests))
 
 best_more : (w : Rehearsal) (p k : ℕ) (best : Option (ℕ × ℕ)) (here : Option (Value × ℕ)) → IsBest w p k best →
     if_member w p (heard_by (member_of w p) (suc k)) ≡ here → IsBest w p (suc k) (larger_of best (suc k) here)
-best_more w p k None None so here = none_more w p k so here
-best_more w p k None (Some e) so here = first_one w p k e so here
+best_more w p k None None so here = heard_on w p k (λ _. ⊥) so (λ v more h. cc (sym here ∙ h))
+best_more w p k None (Some e) so here =
+    newest w p k e here (λ other v more low high h. absurd (so other v more low high h))
 best_more w p k (Some b) None so here =
     same_one w p k b.0 b.1 so (λ v more h. absurd (cc (sym here ∙ h)))
 best_more w p k (Some b) (Some e) so here = by_test w p k b e (nat_lt b.1 e.1) refl so here
@@ -205,10 +182,5 @@ proposal_right w step round last is =
 
 -- ---- more cells
 
-by_cells : (w : Rehearsal) (b : Bool) → nat_lt w.cells MAX_CELLS ≡ b → (if b then MoreCells else Untold) ≡ MoreCells → w.cells < MAX_CELLS
-by_cells w true is h = grind (arith, nat_tests)
-by_cells w false is h = absurd (cc h)
-
 pub cells_right : (w : Rehearsal) (step : Step) (limit : Limit) → right_of w step (Full limit) ≡ MoreCells → w.cells < MAX_CELLS
-cells_right w step limits.Cells h = by_cells w (nat_lt w.cells MAX_CELLS) refl h
-cells_right w step _ h = absurd (cc h)
+cells_right w step limit h = grind (arith, nat_tests)

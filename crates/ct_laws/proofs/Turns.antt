@@ -1,5 +1,5 @@
 -- The steps of turns.
-use Rattle.std.proofs.Common.{◌≡◌, inl, inr, ℕ, zero, suc, Bool, true, false, List, [], ◌∷◌, ◌++◌, refl, sym, subst}
+use Rattle.std.proofs.Common.{◌≡◌, inl, inr, ℕ, zero, suc, Bool, List, [], ◌∷◌, ◌++◌, refl, sym, subst}
 use Rattle.std.specs.Prelude.{if◌then◌else◌, Option, Some, None, find, is_none, option_map, ⊤}
 use Rattle.std.specs.Option.{option_to_list}
 use Rattle.ct_names.specs.Membership.{IsIn}
@@ -17,6 +17,7 @@ use Rattle.ct_play.specs.Cuts.{first_near, near}
 use Rattle.ct_play.specs.Played.{Played}
 use Rattle.ct_play.specs.Turning.{after_attempt, after_round, after_rounds, after_turn, has_ended, suspected_by, suspects, tried_at}
 use Rattle.ct_laws.specs.Places.{AreOf}
+use Rattle.ct_laws.proofs.Cases.{if_either}
 use Rattle.ct_laws.proofs.Deeds.{Grows, grows_not, grows_on}
 
 -- ---- whose step a turn tries
@@ -30,13 +31,9 @@ abbrev pub IsTry : ℕ → Option Step → Type 0
 IsTry p None = ⊤
 IsTry p (Some step) = actor step ≡ p
 
-if_by : (c : Bool) (p : ℕ) (step : Step) (o : Option Step) → actor step ≡ p → IsTry p o → IsTry p (if c then Some step else o)
-if_by true p step o h k = h
-if_by false p step o h k = k
-
 found_by : (f : Step → Bool) (p : ℕ) (steps : List Step) → AllBy p steps → IsTry p (find f steps)
 found_by f p [] h = tt
-found_by f p (step ∷ steps) h = if_by (f step) p step (find f steps) h.0 (found_by f p steps h.1)
+found_by f p (step ∷ steps) h = if_either (IsTry p) (f step) (Some step) (find f steps) h.0 (found_by f p steps h.1)
 
 candidates_by : (p : ℕ) (o : Option ℕ) →
     AllBy p ((step.Deliver p ∷ step.Follow p ∷ step.Begin p ∷ []) ++ option_to_list (option_map (step.Choose p) o)
@@ -51,27 +48,11 @@ receipt_by : (p : ℕ) (o : Option ℕ) → IsTry p (receives p o)
 receipt_by p None = tt
 receipt_by p (Some k) = refl
 
-if_else_by : (c : Bool) (p : ℕ) (a b : Option Step) → IsTry p a → IsTry p b → IsTry p (if c then a else b)
-if_else_by true p a b h k = h
-if_else_by false p a b h k = k
-
 chosen_by : (p : ℕ) (serial : Option ℕ) (answer : Bool) (o : Option Step) → IsTry p o → IsTry p (chosen p serial answer o)
 chosen_by p serial answer None h = receipt_by p serial
 chosen_by p serial answer (Some (step.Suspect q)) h =
-    if_else_by answer p (Some (step.Suspect q)) (receives p serial) h (receipt_by p serial)
-chosen_by p serial answer (Some (step.Submit q c)) h = h
-chosen_by p serial answer (Some (step.Receive q k)) h = h
-chosen_by p serial answer (Some (step.Begin q)) h = h
-chosen_by p serial answer (Some (step.Enter q)) h = h
-chosen_by p serial answer (Some (step.Choose q from)) h = h
-chosen_by p serial answer (Some (step.Adopt q)) h = h
-chosen_by p serial answer (Some (step.Conclude q)) h = h
-chosen_by p serial answer (Some (step.Deliver q)) h = h
-chosen_by p serial answer (Some (step.Follow q)) h = h
-chosen_by p serial answer (Some (step.Crash q)) h = h
-chosen_by p serial answer (Some (step.Postpone q k)) h = h
-chosen_by p serial answer (Some (step.Lose q k)) h = h
-chosen_by p serial answer (Some (step.Repeat q k)) h = h
+    if_either (IsTry p) answer (Some (step.Suspect q)) (receives p serial) h (receipt_by p serial)
+chosen_by p serial answer (Some s) h = h
 
 near_receipt : (p q : ℕ) (o : Option ℕ) → q ≡ p → IsTry p (option_map (step.Receive q) o)
 near_receipt p q None h = tt
@@ -80,19 +61,7 @@ near_receipt p q (Some k) h = h
 near_by : (s : Played) (p : ℕ) (o : Option Step) → IsTry p o → IsTry p (near s o)
 near_by s p None h = tt
 near_by s p (Some (step.Receive q k)) h = near_receipt p q (first_near s q) h
-near_by s p (Some (step.Suspect q)) h = h
-near_by s p (Some (step.Submit q c)) h = h
-near_by s p (Some (step.Begin q)) h = h
-near_by s p (Some (step.Enter q)) h = h
-near_by s p (Some (step.Choose q from)) h = h
-near_by s p (Some (step.Adopt q)) h = h
-near_by s p (Some (step.Conclude q)) h = h
-near_by s p (Some (step.Deliver q)) h = h
-near_by s p (Some (step.Follow q)) h = h
-near_by s p (Some (step.Crash q)) h = h
-near_by s p (Some (step.Postpone q k)) h = h
-near_by s p (Some (step.Lose q k)) h = h
-near_by s p (Some (step.Repeat q k)) h = h
+near_by s p (Some other) h = h
 
 tried_by : (s : Played) (p : ℕ) (set : List ℕ) → IsTry p (tried_at s p set)
 unfolding tried_at tried
@@ -100,7 +69,7 @@ tried_by s p set =
     let w = s.rehearsal in
     let answer = Some (ask_of w p, suspects set (question w p)) in
     near_by s p (if has_crashed w p then None else chosen p (first_waiting w p) (said answer) (next_local w p))
-    (if_else_by (has_crashed w p) p None (chosen p (first_waiting w p) (said answer) (next_local w p)) tt
+    (if_either (IsTry p) (has_crashed w p) None (chosen p (first_waiting w p) (said answer) (next_local w p)) tt
     (chosen_by p (first_waiting w p) (said answer) (next_local w p) (next_by w p)))
 
 -- ---- a turn
@@ -115,14 +84,10 @@ attempt_grows s p ps None h k = grows_not (AreOf ps) s tt
 attempt_grows s p ps (Some step) h k =
     free_if (cause s.rehearsal step) s step ps refl (subst (λ q. IsIn q ps) (sym h) k)
 
-unless_grows : (c : Bool) (s t : Played) (ps : List ℕ) → Grows (AreOf ps) s t → Grows (AreOf ps) s (if c then s else t)
-unless_grows true s t ps h = grows_not (AreOf ps) s tt
-unless_grows false s t ps h = h
-
 turn_grows : (play : Play) (ps : List ℕ) (s : Played) (p : ℕ) → IsIn p ps → Grows (AreOf ps) s (after_turn play s p)
 unfolding after_turn
 turn_grows play ps s p h =
-    unless_grows (has_ended s play) s (after_attempt s (tried_at s p (suspected_by play))) ps
+    if_either (Grows (AreOf ps) s) (has_ended s play) s (after_attempt s (tried_at s p (suspected_by play))) (grows_not (AreOf ps) s tt)
     (attempt_grows s p ps (tried_at s p (suspected_by play)) (tried_by s p (suspected_by play)) h)
 
 -- ---- rounds of turns

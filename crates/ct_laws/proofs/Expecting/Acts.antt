@@ -1,7 +1,6 @@
 -- What is expected of acts and of envelopes that wait.
-use Rattle.std.proofs.Common.{◌≡◌, ◌⊎◌, inl, inr, ◌≤◌, ℕ, zero, suc, Bool, true, false, List, [], ◌∷◌, ◌&&◌, length, refl, ap}
-use Rattle.std.proofs.Common.{sym, ◌∙◌, subst, arith, codes, find, Option, Some, None, Ok, Err, Result, is_some, eqb-true, ◌==◌}
-use Rattle.std.proofs.Math.Nat.{eq-or-lt_of_le}
+use Rattle.std.proofs.Common.{◌≡◌, ◌≤◌, ℕ, zero, suc, Bool, true, false, List, ◌&&◌, length, refl, ap}
+use Rattle.std.proofs.Common.{sym, ◌∙◌, subst, arith, codes, Option, Some, None, Ok, Err, Result, is_some, eqb-true, ◌==◌}
 use Rattle.std.proofs.lemmas.Bool.Decides.{nat_tests}
 use Rattle.std.specs.Prelude.{if◌then◌else◌}
 use Rattle.std.specs.Option.{option_or}
@@ -14,15 +13,15 @@ use Rattle.ct_model.specs.declared.step.Step.{Step}
 use Rattle.ct_model.specs.declared.step.Step.TheVariants as step
 use Rattle.ct_grammar.specs.Reasons.{reason_text}
 use Rattle.ct_grammar.specs.declared.act.Act.{Act}
-use Rattle.ct_grammar.specs.declared.act.Act.TheVariants.{Submit, Receive, Begin, Enter, Choose, Adopt, Suspect, Conclude, Deliver, Follow}
-use Rattle.ct_grammar.specs.declared.act.Act.TheVariants.{Crash, Postpone, Lose, Repeat, LoseFrom}
+use Rattle.ct_grammar.specs.declared.act.Act.TheVariants.{Receive}
+use Rattle.ct_grammar.specs.declared.act.Act.TheVariants.{Postpone, Lose, Repeat, LoseFrom}
 use Rattle.ct_grammar.specs.declared.pick.Pick.{Pick}
 use Rattle.ct_grammar.specs.declared.pick.Pick.TheVariants.{Serial, First}
 use Rattle.ct_grammar.specs.declared.reason.Reason.{Reason}
 use Rattle.ct_grammar.specs.declared.reason.Reason.TheVariants.{NotThere, Across, Rules}
 use Rattle.ct_grammar.specs.declared.carried.Carried.{Carried}
 use Rattle.ct_play.specs.Acting.{first_loss, go_on, step_of, there}
-use Rattle.ct_play.specs.Cuts.{barred, is_near}
+use Rattle.ct_play.specs.Cuts.{barred}
 use Rattle.ct_play.specs.Facts.{act_cause, cause_text, step_cause}
 use Rattle.ct_play.specs.Picking.{first_from, first_so, is_gone, is_of, is_so, is_waiting, last_of, last_so, picked, repeated, sender_of}
 use Rattle.ct_play.specs.Picking.{waiting_at, waits_at, was_sent}
@@ -31,37 +30,13 @@ use Rattle.ct_play.specs.declared.line_fault.LineFault.{LineFault}
 use Rattle.ct_play.specs.declared.line_fault.LineFault.TheVariants as fault
 use Rattle.ct_laws.specs.Expectations.{ComesTo, HasNever, HasNone, HasNoneFrom, HasWaiting, IsAcross, IsNotThere, IsOpen, IsRefusedFor}
 use Rattle.ct_laws.proofs.Expecting.Names.{not_allowed, same_reason}
-
--- ---- lists
-
-none_if : {A : Type 0} (test : A → Bool) (y : A) (ys : List A) (b : Bool) → test y ≡ b → (if b then Some y else find test ys) ≡ None →
-    (find test ys ≡ None → (x : A) → IsIn x ys → test x ≡ false) → (x : A) → (x ≡ y) ⊎ IsIn x ys → test x ≡ false
-none_if test y ys true is h more x at = absurd (cc h)
-none_if test y ys false is h more x (inl same) = ap test same ∙ is
-none_if test y ys false is h more x (inr later) = more h x later
-
--- where none is found, none passes
-pub none_passes : {A : Type 0} (test : A → Bool) (xs : List A) → find test xs ≡ None → (x : A) → IsIn x xs → test x ≡ false
-none_passes test [] h x never = absurd never
-none_passes test (y ∷ ys) h x at = none_if test y ys (test y) refl h (none_passes test ys) x at
-
-pub none_found : {A : Type 0} (test : A → Bool) (xs : List A) → ((x : A) → IsIn x xs → test x ≡ false) → find test xs ≡ None
-none_found test [] h = refl
-none_found test (y ∷ ys) h =
-    ap (λ b. if b then Some y else find test ys) (h y (inl refl)) ∙ none_found test ys (λ x at. h x (inr at))
+use Rattle.ct_laws.proofs.Finding.{none_found, none_passes}
 
 -- ---- the last that passes
 
-last_if : (test : ℕ → Bool) (n k : ℕ) (b : Bool) → test (suc n) ≡ b → (if b then Some (suc n) else last_of test n) ≡ None →
-    (last_of test n ≡ None → k ≤ n → test k ≡ false) → (k ≡ suc n) ⊎ (suc k ≤ suc n) → test k ≡ false
-last_if test n k true is h more at = absurd (cc h)
-last_if test n k false is h more (inl same) = ap test same ∙ is
-last_if test n k false is h more (inr less) = more h (omega (arith, less))
-
 no_last : (test : ℕ → Bool) (n k : ℕ) → last_of test n ≡ None → 1 ≤ k → k ≤ n → test k ≡ false
 no_last test zero k h low high = absurd (omega (arith, low, high))
-no_last test (suc n) k h low high =
-    last_if test n k (test (suc n)) refl h (λ none small. no_last test n k none low small) (eq-or-lt_of_le high)
+no_last test (suc n) k h low high = grind (arith, no_last test n k)
 
 last_none : (test : ℕ → Bool) (n : ℕ) → ((k : ℕ) → 1 ≤ k → k ≤ n → test k ≡ false) → last_of test n ≡ None
 last_none test zero h = refl
@@ -72,12 +47,10 @@ last_none test (suc n) h =
 -- ---- what waits at a member of the group
 
 second_none : (a b : Option ℕ) → option_or a b ≡ None → b ≡ None
-second_none None b h = h
-second_none (Some k) b h = absurd (cc h)
+second_none a b h = grind arith
 
 not_both : (a b : Bool) → a ≡ false → (a && b) ≡ false
-not_both true b h = absurd (cc h)
-not_both false b h = refl
+not_both a b h = ap (λ c. c && b) h
 
 -- the member's line is what waits there
 module _ (w : Rehearsal) (p : ℕ) (line : waiting_at w p ≡ line_of w p) where
@@ -181,16 +154,7 @@ module _ (w : Rehearsal) (p : ℕ) (line : waiting_at w p ≡ line_of w p) where
   not_there (Lose pick) e h = picked_none pick (there_err pick (picked w p pick) (λ k. Ok (step.Lose p k)) e (λ k n. cc n) h)
   not_there (Repeat pick) e h = repeated_none pick (there_err pick (repeated w p pick) (λ k. Ok (step.Repeat p k)) e (λ k n. cc n) h)
   not_there (LoseFrom set) e h = from_none set (loss_err set (first_from w p set) e h)
-  not_there (Submit c) e h = cc h
-  not_there Begin e h = cc h
-  not_there Enter e h = cc h
-  not_there (Choose from) e h = cc h
-  not_there Adopt e h = cc h
-  not_there Suspect e h = cc h
-  not_there Conclude e h = cc h
-  not_there Deliver e h = cc h
-  not_there Follow e h = cc h
-  not_there Crash e h = cc h
+  not_there act e h = cc h
 
   -- the act comes to no step
   abbrev pub IsStuck : Act → Type 0
@@ -210,31 +174,18 @@ module _ (w : Rehearsal) (p : ℕ) (line : waiting_at w p ≡ line_of w p) where
 
 -- ---- the cut
 
-across_if : (s : Played) (q k : ℕ) (b : Bool) (f : LineFault) → is_near s q k ≡ b → (if b then None else Some (fault.Across q k)) ≡ Some f →
-    is_near s q k ≡ false
-across_if s q k true f is h = absurd (cc h)
-across_if s q k false f is h = is
-
 is_across : (s : Played) (step : Step) (f : LineFault) → barred s step ≡ Some f → IsAcross s step
-is_across s (step.Receive q k) f h = across_if s q k (is_near s q k) f refl h
-is_across s _ f h = absurd (cc h)
-
-open_if : (s : Played) (q k : ℕ) (b : Bool) → is_near s q k ≡ b → (if b then None else Some (fault.Across q k)) ≡ None →
-    is_near s q k ≡ true
-open_if s q k true is h = is
-open_if s q k false is h = absurd (cc h)
+is_across s step f h = grind arith
 
 is_open : (s : Played) (step : Step) → barred s step ≡ None → IsOpen s step
-is_open s (step.Receive q k) h = open_if s q k (is_near s q k) refl h
-is_open s _ h = tt
+is_open s step h = grind arith
 
 across_bars : (s : Played) (step : Step) → IsAcross s step → (f : LineFault) × (barred s step ≡ Some f)
 across_bars s (step.Receive q k) h = (fault.Across q k, ap (λ b. if b then None else Some (fault.Across q k)) h)
 across_bars s _ h = absurd h
 
 open_passes : (s : Played) (step : Step) → IsOpen s step → barred s step ≡ None
-open_passes s (step.Receive q k) h = ap (λ b. if b then None else Some (fault.Across q k)) h
-open_passes s _ h = refl
+open_passes s step h = grind arith
 
 -- ---- why an act is refused
 

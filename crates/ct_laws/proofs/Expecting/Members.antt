@@ -1,7 +1,7 @@
 -- What facts say of the state.
 use Rattle.std.proofs.Common.{◌≡◌, inl, inr, ◌≤◌, ◌==◌, ℕ, zero, suc, Bool, true, false, List, [], ◌∷◌, ◌++◌, length}
 use Rattle.std.proofs.Common.{not, refl, ap, sym, ◌∙◌, subst, arith, codes, decimal, bytes_eq, Option, Some, None, is_some, option_map}
-use Rattle.std.proofs.Common.{eqb-true, find, true≢false, leb-true, nat_le}
+use Rattle.std.proofs.Common.{eqb-true, find, true≢false}
 use Rattle.std.proofs.lemmas.Bool.Decides.{nat_tests}
 use Rattle.std.proofs.lemmas.Slice.Eq.{bytes_eq-Decides}
 use Rattle.std.specs.Option.{option_map_or}
@@ -12,7 +12,7 @@ use Rattle.ct_names.specs.Membership.{IsIn}
 use Rattle.ct_names.specs.Value.{Value}
 use Rattle.ct_names.specs.declared.limit.TheConstants.{MAX_ENVELOPES, MAX_INSTANCES, MAX_MEMBERS, MAX_ROUNDS}
 use Rattle.ct_names.proofs.Groups.{in-counting, length-counting, no_longer}
-use Rattle.ct_names.proofs.Lists.{IsIn-filter, IsIn-map, both-left, both-right, found-find, found-list_any, list_any-found}
+use Rattle.ct_names.proofs.Lists.{IsIn-filter, IsIn-map, both-left, found-find, found-list_any, list_any-found}
 use Rattle.ct_model.specs.AtValue.{Standing}
 use Rattle.ct_model.specs.Lawful.{IsLawful}
 use Rattle.ct_model.specs.Next.{own_ballots}
@@ -25,14 +25,14 @@ use Rattle.ct_model.specs.declared.phase.Phase.{Phase}
 use Rattle.ct_model.specs.declared.wire.Wire.TheVariants.{Ack, Est}
 use Rattle.ct_model.proofs.Basics.Serials.{distinct-once, serials_to-within}
 use Rattle.ct_model.proofs.Consensus.Readings.{acked-of, acker-got, estimate_from-in, estimates-got, heard-in}
-use Rattle.ct_world.specs.Standing.{acked_by, all_heard_by, estimate_by}
+use Rattle.ct_world.specs.Standing.{acked_by, all_heard_by}
 use Rattle.ct_world.specs.World.{if_member, member_of}
 use Rattle.ct_text.specs.Standing.{estimate_of}
 use Rattle.ct_text.specs.Shapes.{estimate_text, phase_text}
 use Rattle.ct_text.specs.Lists.{first_in, list_text}
 use Rattle.ct_grammar.specs.declared.fact.Fact.{Fact}
 use Rattle.ct_grammar.specs.declared.fact.Fact.TheVariants.{Up, Crashed, Idle, Instance, Round, Phase as InPhase}
-use Rattle.ct_grammar.specs.declared.fact.Fact.TheVariants.{Received, Decided, Delivered, Table, Refuses}
+use Rattle.ct_grammar.specs.declared.fact.Fact.TheVariants.{Refuses}
 use Rattle.ct_grammar.specs.declared.fact.Fact.TheVariants.{May, Waiting, Waits, Heard, Acked, Estimate}
 use Rattle.ct_play.specs.Facts.{estimate_text as estimate_there, holds, open_text, place_of, place_text, round_text, set_text, there}
 use Rattle.ct_play.specs.Facts.{up_text, value}
@@ -78,9 +78,7 @@ set_in : (set : List ℕ) (q : ℕ) → IsIn q set → has_member set q ≡ true
 set_in set q h = list_any-found (λ x. x == q) q set h (grind (arith, nat_tests))
 
 same_test : (x y : Bool) → (x ≡ true → y ≡ true) → (y ≡ true → x ≡ true) → x ≡ y
-same_test true y to from = sym (to refl)
-same_test false true to from = from refl
-same_test false false to from = refl
+same_test x y to from = grind arith
 
 of_everyone : (q : ℕ) → 1 ≤ q → q ≤ MAX_MEMBERS → IsIn q everyone
 unfolding members
@@ -208,11 +206,7 @@ estimate_open (Some c) = refl
 estimate_is : (w : Rehearsal) (p : ℕ) → IsMember w.setting.members p →
     estimate_there w p ≡ estimate_or (option_map held (member_of w p).current)
 unfolding estimate_of
-estimate_is w p member =
-    ap (λ o. if is_some o then estimate_text (if_member w p (estimate_by (member_of w p))) else codes "-") (place_is w p member)
-    ∙ ap (λ o. if is_some (option_map place (member_of w p).current) then estimate_text o else codes "-")
-    (of_group w p (estimate_by (member_of w p)) member)
-    ∙ estimate_open (member_of w p).current
+estimate_is w p member = rw (is_there w.setting.members p member) (estimate_open (member_of w p).current)
 
 -- ---- what is there says what the state is
 
@@ -229,10 +223,6 @@ module _ (s : Played) (p : ℕ) (member : IsMember s.rehearsal.setting.members p
       round_by s.rehearsal p r (member_of s.rehearsal p).current law refl (sym (ap round_text (place_is s.rehearsal p member)) ∙ h)
   there_so (InPhase f) law h =
       phase_by s.rehearsal p f (member_of s.rehearsal p).current refl (sym (ap place_text (place_is s.rehearsal p member)) ∙ h)
-  there_so (Received text) law h = sym h
-  there_so (Decided text) law h = sym h
-  there_so (Delivered text) law h = sym h
-  there_so (Table text) law h = sym h
   there_so (Refuses act reason) law h = refused_for s p act (line_is s.rehearsal p member) reason h
   there_so (May act) law h = may_so s p act (line_is s.rehearsal p member) h
   there_so (Waiting k) law h =
@@ -266,6 +256,7 @@ module _ (s : Played) (p : ℕ) (member : IsMember s.rehearsal.setting.members p
       let w = s.rehearsal in
       dash_by w p estimate_or held refl text (λ c. text ≡ estimate_text (Some (c.estimate, c.ts))) (member_of w p).current refl
       (sym (estimate_is w p member) ∙ h) (λ c is. sym is)
+  there_so fact law h = sym h
 
   so_there : (fact : Fact) → IsSo s p fact → there s p fact ≡ value fact
   unfolding estimate_or
@@ -277,10 +268,6 @@ module _ (s : Played) (p : ℕ) (member : IsMember s.rehearsal.setting.members p
       ap round_text (place_is s.rehearsal p member) ∙ ap (λ o. round_text (option_map place o)) h.1 ∙ ap decimal h.2
   so_there (InPhase f) h =
       ap place_text (place_is s.rehearsal p member) ∙ ap (λ o. place_text (option_map place o)) h.1 ∙ ap phase_text h.2
-  so_there (Received text) h = sym h
-  so_there (Decided text) h = sym h
-  so_there (Delivered text) h = sym h
-  so_there (Table text) h = sym h
   so_there (Refuses act reason) h = for_refused s p act (line_is s.rehearsal p member) reason h
   so_there (May act) h = so_may s p act (line_is s.rehearsal p member) h
   so_there (Waiting k) h = ap (λ l. decimal (length l)) (line_is s.rehearsal p member) ∙ ap decimal h
@@ -303,23 +290,24 @@ module _ (s : Played) (p : ℕ) (member : IsMember s.rehearsal.setting.members p
       let w = s.rehearsal in
       estimate_is w p member
       ∙ so_dash w p estimate_or held refl text (λ c. text ≡ estimate_text (Some (c.estimate, c.ts))) (λ c is. sym is) h
+  so_there fact h = sym h
 
 -- ---- facts
 
 pub is_of_group : (n p : ℕ) → is_member n p ≡ true → IsMember n p
-is_of_group n p h = (leb-true 1 p (both-left (nat_le 1 p) (nat_le p n) h), leb-true p n (both-right (nat_le 1 p) (nat_le p n) h))
+is_of_group n p h = grind (arith, nat_tests)
 
-holds_by : (s : Played) (p : ℕ) (fact : Fact) (b : Bool) → is_member s.rehearsal.setting.members p ≡ b → IsLawful s.rehearsal →
-    (if b then bytes_eq (there s p fact) (value fact) else false) ≡ true → IsMember s.rehearsal.setting.members p × IsSo s p fact
-holds_by s p fact true is law h =
-    let member = is_of_group s.rehearsal.setting.members p is in
-    (member, there_so s p member fact law ((bytes_eq-Decides (there s p fact) (value fact)).0 h))
-holds_by s p fact false is law h = absurd (cc h)
+pub of_group_so : (b c : Bool) → (if b then c else false) ≡ true → (b ≡ true) × (c ≡ true)
+of_group_so true c h = (refl, h)
+of_group_so false c h = absurd (cc h)
 
 pub holds_so : (s : Played) (p : ℕ) (fact : Fact) → IsLawful s.rehearsal → holds s p fact ≡ true →
     IsMember s.rehearsal.setting.members p × IsSo s p fact
 unfolding holds
-holds_so s p fact law h = holds_by s p fact (is_member s.rehearsal.setting.members p) refl law h
+holds_so s p fact law h =
+    let f = of_group_so (is_member s.rehearsal.setting.members p) (bytes_eq (there s p fact) (value fact)) h in
+    let member = is_of_group s.rehearsal.setting.members p f.0 in
+    (member, there_so s p member fact law ((bytes_eq-Decides (there s p fact) (value fact)).0 f.1))
 
 pub so_holds : (s : Played) (p : ℕ) (fact : Fact) → IsMember s.rehearsal.setting.members p → IsSo s p fact → holds s p fact ≡ true
 unfolding holds

@@ -2,11 +2,10 @@
 use Rattle.std.proofs.Common.{◌≡◌, ℕ, List, Option, Some, None, refl, sym, ap, ◌∙◌, bytes_eq, codes}
 use Rattle.std.specs.Prelude.{if◌then◌else◌}
 use Rattle.ct_names.specs.RefusalText.{refusal_text}
-use Rattle.ct_names.specs.declared.limit.Limit.TheVariants.{Submissions, Instances, Rounds, Envelopes, Cells, Steps}
+use Rattle.ct_names.specs.declared.limit.Limit.TheVariants.{Submissions}
 use Rattle.ct_names.specs.declared.refusal.Refusal.{Refusal}
-use Rattle.ct_names.specs.declared.refusal.Refusal.TheVariants.{NoSuchMember, Crashed, NotWaiting, Busy, Nothing, Idle, WrongPhase, Decided}
-use Rattle.ct_names.specs.declared.refusal.Refusal.TheVariants.{TooFew, NotLargest, NoProposal, HasProposal, Undecided, BadCommand, Full}
-use Rattle.ct_names.specs.declared.refusal.Refusal.TheVariants.{OutOfMemory, Board, NotSent, StillWaiting}
+use Rattle.ct_names.specs.declared.refusal.Refusal.TheVariants.{Full}
+use Rattle.ct_names.specs.declared.refusal.Refusal.TheVariants.{OutOfMemory, Board}
 use Rattle.ct_model.specs.declared.phase.Phase.{Phase}
 use Rattle.ct_model.specs.declared.phase.Phase.TheVariants.{Rest, Gather, Wait, Tally}
 use Rattle.ct_text.specs.Shapes.{phase_text}
@@ -22,30 +21,9 @@ named text =
 
 read : (refusal : Refusal) → named (refusal_text refusal) ≡ Some (Rules refusal)
 unfolding named reason_of step_reason full_of
-read NoSuchMember = refl
-read Crashed = refl
-read NotWaiting = refl
-read Busy = refl
-read Nothing = refl
-read Idle = refl
-read WrongPhase = refl
-read Decided = refl
-read TooFew = refl
-read NotLargest = refl
-read NoProposal = refl
-read HasProposal = refl
-read Undecided = refl
-read BadCommand = refl
 read (Full Submissions) = refl
-read (Full Instances) = refl
-read (Full Rounds) = refl
-read (Full Envelopes) = refl
-read (Full Cells) = refl
-read (Full Steps) = refl
-read OutOfMemory = refl
-read Board = refl
-read NotSent = refl
-read StillWaiting = refl
+read (Full _) = refl
+read _ = refl
 
 read_reason : (reason : Reason) → named (reason_text reason) ≡ Some reason
 unfolding named reason_of
@@ -74,9 +52,7 @@ phased text =
 read_phase : (phase : Phase) → phased (phase_text phase) ≡ Some phase
 unfolding phased
 read_phase Rest = refl
-read_phase Gather = refl
-read_phase Wait = refl
-read_phase Tally = refl
+read_phase _ = refl
 
 pub same_phase : (a b : Phase) → phase_text a ≡ phase_text b → a ≡ b
 same_phase a b h = let same : Some a ≡ Some b = sym (read_phase a) ∙ ap phased h ∙ read_phase b in cc same

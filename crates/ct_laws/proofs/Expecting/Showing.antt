@@ -1,5 +1,5 @@
 -- What is shown is so, when it has to be and of those of whom it has to be.
-use Rattle.std.proofs.Common.{◌≡◌, inl, inr, ◌≤◌, ℕ, zero, suc, Bool, true, false, not, ◌&&◌, ◌||◌, List, [], ◌∷◌}
+use Rattle.std.proofs.Common.{◌≡◌, inl, inr, ◌≤◌, ℕ, zero, suc, Bool, true, false, not, ◌&&◌, List, [], ◌∷◌}
 use Rattle.std.proofs.Common.{length, take, refl, ap, sym, ◌∙◌, subst, arith, Option, Some, None, is_some, is_none, option_map, find}
 use Rattle.std.proofs.Common.{eqb-true, leb-true, option_and_then}
 use Rattle.std.proofs.Math.Nat.{eq-or-lt_of_le}
@@ -14,7 +14,7 @@ use Rattle.ct_names.specs.Value.{Value}
 use Rattle.ct_names.specs.declared.refusal.Refusal.{Refusal}
 use Rattle.ct_names.proofs.Groups.{counting-range, in-counting}
 use Rattle.ct_names.proofs.Lists.{IsIn-filter, IsIn-filter_from, IsIn-filter_passes, both, both-left, both-right, contrary}
-use Rattle.ct_names.proofs.Lists.{found-list_any, from_filter_map, list_any-found, passes-list_all}
+use Rattle.ct_names.proofs.Lists.{found-list_any, from_filter_map, list_any-found, not-false, not-true, passes-list_all}
 use Rattle.ct_model.specs.AtValue.{Standing}
 use Rattle.ct_model.specs.Cause.{cause}
 use Rattle.ct_model.specs.Lawful.{IsLawful}
@@ -25,6 +25,7 @@ use Rattle.ct_model.specs.State.{delivered, is_crashed}
 use Rattle.ct_model.specs.declared.step.Step.{Step}
 use Rattle.ct_model.specs.declared.step.Step.TheVariants.{Choose}
 use Rattle.ct_model.specs.declared.wire.Wire.TheVariants.{Est}
+use Rattle.ct_model.proofs.Basics.Tests.{or_cases, or_left, or_right}
 use Rattle.ct_model.proofs.Consensus.Readings.{estimate_from-in, estimates-got}
 use Rattle.ct_model.proofs.Record.Allowed.{allowed-lawful, cause-allowed}
 use Rattle.ct_model.proofs.Record.Start.{lawful-first}
@@ -52,10 +53,10 @@ use Rattle.ct_laws.specs.Facts.{Stands}
 use Rattle.ct_laws.specs.Places.{AreAllowed, EachIsAllowed, behind}
 use Rattle.ct_laws.specs.Showing.{AreMet, Claims, IsAt, IsEnough, IsOf, IsWhen, RefusesHeard}
 use Rattle.ct_laws.proofs.Deeds.{both_behind, nothing_behind}
-use Rattle.ct_laws.proofs.Expecting.Members.{holds_so, is_of_group, own_member, so_holds}
+use Rattle.ct_laws.proofs.Expecting.Members.{holds_so, is_of_group, of_group_so, own_member, so_holds}
 use Rattle.ct_laws.proofs.Expecting.Steps.{before_so, chooses_so, concludes_so, follows_so, so_before, so_chooses, so_concludes, so_follows}
-use Rattle.ct_laws.proofs.Expecting.Steps.{none_of, not_true, or_first, or_last, so_suspects, suspects_so}
-use Rattle.ct_laws.proofs.Expecting.Acts.{none_found, none_passes}
+use Rattle.ct_laws.proofs.Expecting.Steps.{none_of, so_suspects, suspects_so}
+use Rattle.ct_laws.proofs.Finding.{none_found, none_passes}
 use Rattle.ct_laws.proofs.MemberFacts.{got_heard, is_there, of_group}
 use Rattle.ct_laws.proofs.Expecting.Names.{same_reason}
 
@@ -217,16 +218,13 @@ module _ (s : Played) (p : ℕ) (member : IsMember s.rehearsal.setting.members p
   so_says claim.ChoosesUnseen h = so_chooses s.rehearsal p member h.0 h.1 h.2
   so_says claim.ConcludesAgain h = so_concludes s.rehearsal p member h.0 h.1
 
-true_by : (s : Played) (p : ℕ) (c : Claim) (b : Bool) → is_member s.rehearsal.setting.members p ≡ b → IsLawful s.rehearsal →
-    (if b then says s p c else false) ≡ true → IsMember s.rehearsal.setting.members p × Claims s p c
-true_by s p c true is law h =
-    let member = is_of_group s.rehearsal.setting.members p is in (member, says_so s p member c law h)
-true_by s p c false is law h = absurd (cc h)
-
 true_so : (s : Played) (p : ℕ) (c : Claim) → IsLawful s.rehearsal → is_true_of s p c ≡ true →
     IsMember s.rehearsal.setting.members p × Claims s p c
 unfolding is_true_of
-true_so s p c law h = true_by s p c (is_member s.rehearsal.setting.members p) refl law h
+true_so s p c law h =
+    let f = of_group_so (is_member s.rehearsal.setting.members p) (says s p c) h in
+    let member = is_of_group s.rehearsal.setting.members p f.0 in
+    (member, says_so s p member c law f.1)
 
 so_true : (s : Played) (p : ℕ) (c : Claim) → IsMember s.rehearsal.setting.members p → Claims s p c → is_true_of s p c ≡ true
 unfolding is_true_of
@@ -236,17 +234,12 @@ so_true s p c member h =
 -- ---- of whom
 
 none_is : (o : Option ℕ) → is_none o ≡ true → o ≡ None
-none_is None h = refl
-none_is (Some k) h = absurd (cc h)
-
-not_false : (b : Bool) → not b ≡ false → b ≡ true
-not_false true h = refl
-not_false false h = absurd (cc h)
+none_is o h = grind arith
 
 all_none : (s : Played) (c : Claim) (ps : List ℕ) → is_none (find (λ p. not (is_true_of s p c)) ps) ≡ true → (p : ℕ) → IsIn p ps →
     is_true_of s p c ≡ true
 all_none s c ps h p at =
-    not_false (is_true_of s p c) (none_passes (λ p. not (is_true_of s p c)) ps (none_is (find (λ p. not (is_true_of s p c)) ps) h) p at)
+    not-false (is_true_of s p c) (none_passes (λ p. not (is_true_of s p c)) ps (none_is (find (λ p. not (is_true_of s p c)) ps) h) p at)
 
 none_all : (s : Played) (c : Claim) (ps : List ℕ) → ((p : ℕ) → IsIn p ps → is_true_of s p c ≡ true) →
     is_none (find (λ p. not (is_true_of s p c)) ps) ≡ true
@@ -259,7 +252,7 @@ is_up w p member up = ap (λ b. not (is_member w.setting.members p && b)) up ∙
 
 up_is : (w : Rehearsal) (p : ℕ) → IsMember w.setting.members p → not (has_crashed w p) ≡ true → is_crashed (state_of w) p ≡ false
 up_is w p member h =
-    not_true (is_crashed (state_of w) p)
+    not-true (is_crashed (state_of w) p)
     (sym (ap (λ b. not (b && is_crashed (state_of w) p)) (is_there w.setting.members p member)) ∙ h)
 
 of_so : (s : Played) (whom : Whom) (c : Claim) → IsLawful s.rehearsal → holds_for s whom c ≡ true → IsOf s whom c
@@ -315,30 +308,21 @@ record IsSeen (s : Played) (term : Term) (n : ℕ) : Type 0 where
   pub few : steps ≤ n
   pub holds : holds_at (first_part s steps) term ≡ true
 
-seen_if : (s : Played) (term : Term) (n : ℕ) (b : Bool) → was_seen s term n ≡ b → (b || holds_at (first_part s (suc n)) term) ≡ true →
-    (was_seen s term n ≡ true → IsSeen s term n) → IsSeen s term (suc n)
-seen_if s term n true is h more =
-    let f = more is in
-    let few : f.steps ≤ n = f.few in
-    record { steps = f.steps; few = omega (arith, few); holds = f.holds }
-seen_if s term n false is h more = record { steps = suc n; few = omega arith; holds = h }
-
 seen : (s : Played) (term : Term) (n : ℕ) → was_seen s term n ≡ true → IsSeen s term n
 unfolding was_seen
 seen s term zero h = record { steps = 0; few = omega arith; holds = h }
-seen s term (suc n) h = seen_if s term n (was_seen s term n) refl h (seen s term n)
-
-is_zero : (k : ℕ) → k ≤ 0 → 0 ≡ k
-is_zero zero h = refl
-is_zero (suc k) h = absurd (omega (arith, h))
+seen s term (suc n) h = elim (or_cases (was_seen s term n) (holds_at (first_part s (suc n)) term) h) [
+  | inl before ↦ let f = seen s term n before in record { steps = f.steps; few = omega (arith, f.few); holds = f.holds }
+  | inr here ↦ record { steps = suc n; few = omega arith; holds = here }
+]
 
 was : (s : Played) (term : Term) (n k : ℕ) → k ≤ n → holds_at (first_part s k) term ≡ true → was_seen s term n ≡ true
 unfolding was_seen
-was s term zero k h holds = ap (λ i. holds_at (first_part s i) term) (is_zero k h) ∙ holds
+was s term zero k h holds = let none : k ≡ 0 = omega arith in subst (λ i. holds_at (first_part s i) term ≡ true) none holds
 was s term (suc n) k h holds = elim (eq-or-lt_of_le h) [
-  | inl same ↦ or_last (was_seen s term n) (holds_at (first_part s (suc n)) term)
+  | inl same ↦ or_right (was_seen s term n) (holds_at (first_part s (suc n)) term)
       (sym (ap (λ i. holds_at (first_part s i) term) same) ∙ holds)
-  | inr less ↦ or_first (was_seen s term n) (holds_at (first_part s (suc n)) term) (was s term n k (omega (arith, less)) holds)
+  | inr less ↦ or_left (was_seen s term n) (holds_at (first_part s (suc n)) term) (was s term n k (omega (arith, less)) holds)
 ]
 
 ever_so : (s : Played) (term : Term) → EachIsAllowed s.rehearsal → IsSeen s term (length s.rehearsal.steps) → IsWhen Ever s term
@@ -361,7 +345,7 @@ term_so s Never whom c whole h = λ n few at.
     let term : Term = record { when = Never; whom = whom; claim = c } in
     contrary (was_seen s term (length s.rehearsal.steps))
     (was s term (length s.rehearsal.steps) n few (so_at (first_part s n) term at))
-    (not_true (was_seen s term (length s.rehearsal.steps)) h)
+    (not-true (was_seen s term (length s.rehearsal.steps)) h)
 
 so_term : (s : Played) (when : When) (whom : Whom) (c : Claim) → EachIsAllowed s.rehearsal →
     IsWhen when s (record { when = when; whom = whom; claim = c }) → is_met s (record { when = when; whom = whom; claim = c }) ≡ true

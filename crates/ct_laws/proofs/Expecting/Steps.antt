@@ -1,22 +1,22 @@
 -- What is claimed of last steps and of the order of messages.
-use Rattle.std.proofs.Common.{◌≡◌, inl, inr, ◌-◌, ◌≤◌, ◌<◌, ◌==◌, ℕ, zero, suc, Bool, true, false, not, ◌&&◌, ◌||◌, List, [], ◌∷◌}
+use Rattle.std.proofs.Common.{◌≡◌, inl, inr, ◌-◌, ◌≤◌, ◌<◌, ◌==◌, ℕ, zero, suc, Bool, true, false, not, ◌&&◌, List, [], ◌∷◌}
 use Rattle.std.proofs.Common.{◌++◌, length, refl, ap, ap₂, sym, ◌∙◌, subst, arith, Option, Some, None, option_map, slice_get, nat_lt}
 use Rattle.std.proofs.Common.{eqb-true}
 use Rattle.std.proofs.Common.{ltb-true, mod-lt, position}
-use Rattle.std.proofs.Math.Nat.{eq-or-lt_of_le}
 use Rattle.std.proofs.lemmas.Bool.Decides.{nat_tests}
 use Rattle.std.specs.List.{list_any}
 use Rattle.ct_names.specs.Group.{IsMember, coordinator, is_member}
 use Rattle.ct_names.specs.Membership.{IsIn}
 use Rattle.ct_names.specs.Message.{Message}
 use Rattle.ct_names.specs.Value.{Value}
-use Rattle.ct_names.proofs.Lists.{both, both-left, both-right, found-list_any, list_any-found}
+use Rattle.ct_names.proofs.Lists.{both, both-left, both-right, found-list_any, list_any-found, not-true}
 use Rattle.ct_model.specs.AtValue.{Standing}
 use Rattle.ct_model.specs.Mapped.{without_value}
 use Rattle.ct_model.specs.Rehearsal.{Rehearsal, state_of}
 use Rattle.ct_model.specs.State.{at_serial, is_crashed}
 use Rattle.ct_model.specs.declared.step.Step.{Step}
 use Rattle.ct_model.specs.declared.step.Step.TheVariants.{Choose, Conclude, Follow, Receive, Suspect}
+use Rattle.ct_model.proofs.Basics.Tests.{or_cases, self_number}
 use Rattle.ct_world.specs.Standing.{heard_by}
 use Rattle.ct_world.specs.World.{if_member, member_of}
 use Rattle.ct_grammar.specs.declared.carried.Carried.{Carried}
@@ -78,9 +78,6 @@ so_ends : (w : Rehearsal) (step : Step) → EndsWith w step → last_step w ≡ 
 unfolding last_step
 so_ends w step h = ap (λ (l : List Step). slice_get l (length l - 1)) h.1 ∙ at_end h.0 step
 
-same_member : (p : ℕ) → (p == p) ≡ true
-same_member p = grind (arith, nat_tests)
-
 -- ---- follow
 
 follow_by : (w : Rehearsal) (p k : ℕ) (o : Option Step) → last_step w ≡ o → follows w p k o ≡ true →
@@ -98,7 +95,7 @@ follows_so w p k h = follow_by w p k (last_step w) refl h
 pub so_follows : (w : Rehearsal) (p k : ℕ) → EndsWith w (Follow p) → (member_of w p).last ≡ k → follows w p k (last_step w) ≡ true
 so_follows w p k end is =
     ap (follows w p k) (so_ends w (Follow p) end)
-    ∙ both (p == p) ((member_of w p).last == k) (same_member p) (ap (λ n. n == k) is ∙ same_member k)
+    ∙ both (p == p) ((member_of w p).last == k) (self_number p) (ap (λ n. n == k) is ∙ self_number k)
 
 -- ---- suspicion
 
@@ -107,10 +104,6 @@ coordinates n p r h =
     let some : 0 < n = omega (arith, h.0, h.1) in
     let less = mod-lt r some in
     (omega arith, omega (arith, less))
-
-pub not_true : (b : Bool) → not b ≡ true → b ≡ false
-not_true true h = absurd (cc h)
-not_true false h = refl
 
 pub none_of : (b : Bool) → not (b && false) ≡ true
 none_of true = refl
@@ -124,32 +117,16 @@ false_of false h = refl
 abbrev OneOf : (ℕ → Bool) → ℕ → Type 0
 OneOf test n = (k : ℕ) × (1 ≤ k) × (k ≤ n) × (test k ≡ true)
 
-one_if : (test : ℕ → Bool) (n : ℕ) (b : Bool) → any_to test n ≡ b → (b || test (suc n)) ≡ true → (any_to test n ≡ true → OneOf test n) →
-    OneOf test (suc n)
-one_if test n true is h more =
-    let f = more is in
-    let high : f.0 ≤ n = f.2 in
-    (f.0, f.1, omega (arith, high), f.3)
-one_if test n false is h more = (suc n, omega arith, omega arith, h)
-
 one_of : (test : ℕ → Bool) (n : ℕ) → any_to test n ≡ true → OneOf test n
 one_of test zero h = absurd (cc h)
-one_of test (suc n) h = one_if test n (any_to test n) refl h (one_of test n)
-
-pub or_last : (a b : Bool) → b ≡ true → (a || b) ≡ true
-or_last true b h = refl
-or_last false b h = h
-
-pub or_first : (a b : Bool) → a ≡ true → (a || b) ≡ true
-or_first true b h = refl
-or_first false b h = absurd (cc h)
+one_of test (suc n) h = elim (or_cases (any_to test n) (test (suc n)) h) [
+  | inl before ↦ let f = one_of test n before in (f.0, f.1, omega (arith, f.2), f.3)
+  | inr here ↦ (suc n, omega arith, omega arith, here)
+]
 
 any_of : (test : ℕ → Bool) (n k : ℕ) → 1 ≤ k → k ≤ n → test k ≡ true → any_to test n ≡ true
 any_of test zero k low high h = absurd (omega (arith, low, high))
-any_of test (suc n) k low high h = elim (eq-or-lt_of_le high) [
-  | inl same ↦ or_last (any_to test n) (test (suc n)) (sym (ap test same) ∙ h)
-  | inr less ↦ or_first (any_to test n) (test (suc n)) (any_of test n k low (omega (arith, less)) h)
-]
+any_of test (suc n) k low high h = grind (arith, any_of test n k)
 
 module _ (w : Rehearsal) (p : ℕ) (member : IsMember w.setting.members p) where
   led_by : (o : Option Standing) → (member_of w p).current ≡ o → is_led w (option_map place o) ≡ true →
@@ -158,7 +135,7 @@ module _ (w : Rehearsal) (p : ℕ) (member : IsMember w.setting.members p) where
   led_by (Some c) is h =
       let q = coordinator w.setting.members c.round in
       let there = is_there w.setting.members q (coordinates w.setting.members p c.round member) in
-      (c, is, not_true (is_crashed (state_of w) q) (sym (ap (λ b. not (b && is_crashed (state_of w) q)) there) ∙ h))
+      (c, is, not-true (is_crashed (state_of w) q) (sym (ap (λ b. not (b && is_crashed (state_of w) q)) there) ∙ h))
 
   suspect_by : (o : Option Step) → last_step w ≡ o → suspects_up w p o ≡ true →
       EndsWith w (Suspect p) × Stands w p (λ c. IsLed w c.round)
@@ -180,7 +157,7 @@ module _ (w : Rehearsal) (p : ℕ) (member : IsMember w.setting.members p) where
   so_suspects end h =
       let q = coordinator w.setting.members h.0.round in
       ap (suspects_up w p) (so_ends w (Suspect p) end)
-      ∙ both (p == p) (is_led w (place_of w p)) (same_member p)
+      ∙ both (p == p) (is_led w (place_of w p)) (self_number p)
       (ap (is_led w) (place_is w p member) ∙ ap (λ o. is_led w (option_map place o)) h.1
       ∙ ap (λ b. not (is_member w.setting.members q && b)) h.2 ∙ none_of (is_member w.setting.members q))
 
@@ -202,7 +179,7 @@ module _ (w : Rehearsal) (p : ℕ) (member : IsMember w.setting.members p) where
   unfolding has_got
   not_got carried none k at =
       false_of (has carried k) (λ so. sym none
-      ∙ list_any-found (gets w p carried) (Receive p k) w.steps at (both (p == p) (has carried k) (same_member p) so))
+      ∙ list_any-found (gets w p carried) (Receive p k) w.steps at (both (p == p) (has carried k) (self_number p) so))
 
   got_not : (carried : Carried) → ((k : ℕ) → IsIn (Receive p k) w.steps → has carried k ≡ false) → has_got w p carried ≡ false
   unfolding has_got
@@ -221,7 +198,7 @@ module _ (w : Rehearsal) (p : ℕ) (member : IsMember w.setting.members p) where
         e.1,
         is,
         ltb-true 0 e.1 (both-left more none h),
-        not_got (Prop (member_of w p).last e.1) (not_true (has_got w p (Prop (member_of w p).last e.1)) (both-right more none h)),
+        not_got (Prop (member_of w p).last e.1) (not-true (has_got w p (Prop (member_of w p).last e.1)) (both-right more none h)),
       )
 
   choose_by : (o : Option Step) → last_step w ≡ o → chooses_unseen w p o ≡ true → (q : ℕ) × EndsWith w (Choose p q) × IsUnseen w p q
@@ -245,7 +222,7 @@ module _ (w : Rehearsal) (p : ℕ) (member : IsMember w.setting.members p) where
       let low : 1 ≤ ts = h.3 in
       let more : nat_lt 0 ts ≡ true = grind (arith, nat_tests, low) in
       ap (chooses_unseen w p) (so_ends w (Choose p q) end)
-      ∙ both (p == p) (is_unseen w p (if_member w p (heard_by (member_of w p) q))) (same_member p)
+      ∙ both (p == p) (is_unseen w p (if_member w p (heard_by (member_of w p) q))) (self_number p)
       (ap (is_unseen w p) (of_group w p (heard_by (member_of w p) q) member ∙ h.2)
       ∙ both (nat_lt 0 ts) (not (has_got w p carried)) more (ap not (got_not carried h.4)))
 
@@ -293,7 +270,7 @@ module _ (w : Rehearsal) (p : ℕ) (member : IsMember w.setting.members p) where
       let r = h.0.round in
       let n = length (state_of w).sent in
       ap (concludes_again w p) (so_ends w (Conclude p) end)
-      ∙ both (p == p) (is_again w p (place_of w p)) (same_member p)
+      ∙ both (p == p) (is_again w p (place_of w p)) (self_number p)
       (ap (is_again w p) (place_is w p member) ∙ ap (λ o. is_again w p (option_map place o)) h.1
       ∙ both (any_to (is_so w (Dec k r) (Some p)) n) (any_to (was_other w k r) n)
       (any_of (is_so w (Dec k r) (Some p)) n h.2.0.0 h.2.0.1 h.2.0.2 h.2.0.3)
