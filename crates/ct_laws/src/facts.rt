@@ -16,6 +16,7 @@ ghost use Rattle.ct_laws.specs.Behind.{NameActor, NameReason, TellsFacts, TellsM
 /// words of those that were sent and of the steps; or when its member crashed, and what would be right. Which facts these are `NameReason`
 /// says by the refusal: of a member its round, its estimate, one of each member of which it has an estimate of that round, and how many
 /// replied.
+#[tactic(auto, using(crate::proofs::MemberFacts::tells_member, crate::proofs::Reasons::tells_line, crate::proofs::Reasons::tells_step))]
 pub fn law_facts()
     ensures member { (w : Rehearsal) (p : ℕ) → IsMember w.setting.members p → TellsMember w p (member_facts w p) }
     ensures steps { (w : Rehearsal) (step : Step) (refusal : Refusal) → cause w step ≡ Some refusal →

@@ -14,6 +14,7 @@ ghost use Rattle.ct_laws.specs.Rights.{HasProposal, IsLargest};
 /// What would be right, as the judge of schedules tells it behind the facts of a refused step, is so: where it names a member and the
 /// largest ts, the step's member heard that of it, and nobody with a larger one; where it names the round of a proposal, that one was
 /// received; and where it speaks of more cells, there may be more.
+#[tactic(auto, using(crate::proofs::Righting::cells_right, crate::proofs::Righting::largest_right, crate::proofs::Righting::proposal_right))]
 pub fn law_right()
     ensures largest { (w : Rehearsal) (step : Step) (q ts : ℕ) → right_of w step NotLargest ≡ Largest q ts → IsLargest w (actor step) q ts }
     ensures proposal { (w : Rehearsal) (step : Step) (round last : ℕ) → right_of w step NoProposal ≡ Proposal round (Some last) →
