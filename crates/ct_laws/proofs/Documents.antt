@@ -1,8 +1,6 @@
 -- A diagram is XML.
-use Rattle.std.proofs.Common.{ℕ, zero, suc, ◌+◌, ◌*◌, List, [], ◌∷◌, length, drop, take, refl, codes}
-use Rattle.std.proofs.Common.{Option, Some, None}
+use Rattle.std.proofs.Common.{ℕ, zero, suc, ◌+◌, List, length, drop, take, refl, Option, Some, None, [], ◌∷◌, codes}
 use Rattle.std.specs.Prelude.{slice_get}
-use Rattle.ct_model.specs.Actor.{actor}
 use Rattle.ct_model.specs.Rehearsal.{Rehearsal, extended}
 use Rattle.ct_model.specs.Senders.{senders}
 use Rattle.ct_model.specs.declared.step.Step.{Step}
@@ -10,19 +8,30 @@ use Rattle.ct_diagram.specs.Arrows.{arrows, grid_of}
 use Rattle.ct_diagram.specs.Diagram.{Layer, arrows_layer, diagram_text, first_layer, framed_text, layer_next, marks_layer}
 use Rattle.ct_diagram.specs.Diagram.{shades_layer, whole_layer}
 use Rattle.ct_diagram.specs.Frame
-use Rattle.ct_diagram.specs.Grid.{lane, row_of, spot_of, top_of}
 use Rattle.ct_diagram.specs.Window.{is_drawn}
 use Rattle.ct_diagram.specs.declared.window.Window.{Window}
 use Rattle.ct_laws.specs.Xml.{IsXml}
 use Rattle.ct_laws.proofs.Reader.{is_xml}
 use Rattle.ct_laws.proofs.Reader.Reading.{Start, End}
-use Rattle.ct_laws.proofs.DrawnTexts.{Grid, IsInSvg, arrows_read, both_in, end_mild, if_in, in_group, in_svg, shades_read, sighted_reads}
+use Rattle.ct_laws.proofs.DrawnTexts.{Grid, IsInSvg, arrows_read, both_in, if_in, marks_read, shades_read, xml_parts, in_group, in_svg}
 use Rattle.ct_laws.proofs.Reading.{Leads, leads, reads}
-use Rattle.ct_laws.proofs.Reading.Piece.{Fixed, Number, Known}
 use Rattle.ct_laws.proofs.Records.{part}
 use Rattle.ct_laws.proofs.Trails.{drawn_at, trail_at}
+use Rattle.ct_diagram.specs.Grid.{row_of}
+use Rattle.ct_laws.proofs.Reading.Piece.{Fixed, Number, Known}
 
 -- ---- the frame
+
+row_reads : (g : Grid) (row right k : ℕ) → IsInSvg (Frame.row_text g row right k)
+unfolding Frame.name_text Frame.line_text
+row_reads g row right zero = refl
+row_reads g row right (suc k) = simp (xml_parts, row_reads g row right k)
+
+rows_read : (g : Grid) (end k : ℕ) → IsInSvg (Frame.rows_text g end k)
+rows_read g end zero = refl
+rows_read g end (suc k) =
+    both_in (Frame.rows_text g end k) (Frame.row_text g k (Frame.row_end g end k) g.n) (rows_read g end k)
+    (row_reads g k (Frame.row_end g end k) g.n)
 
 sizes_read : (wide high : ℕ) → Leads Start (Frame.sizes_text wide high) in_svg
 unfolding Frame.sizes_text
@@ -35,31 +44,6 @@ head_reads : (g : Grid) (end : ℕ) → Leads Start (Frame.head_text g end) in_s
 head_reads g end =
     leads Start in_svg in_svg (Frame.sizes_text (Frame.width g end) (Frame.low g end + 32)) _
     (sizes_read (Frame.width g end) (Frame.low g end + 32)) refl
-
-name_reads : (p y : ℕ) → IsInSvg (Frame.name_text p y)
-unfolding Frame.name_text
-name_reads p y =
-    reads in_svg (Fixed (codes "<text class='name' x='6' y='") ∷ Number (y + 4) ∷ Fixed (codes "'>member ") ∷ Number p
-    ∷ Fixed (codes "</text>\n") ∷ []) (tt, (tt, (tt, (tt, (tt, tt)))))
-
-line_reads : (y right : ℕ) → IsInSvg (Frame.line_text y right)
-unfolding Frame.line_text
-line_reads y right =
-    reads in_svg (Fixed (codes "<path class='lane' d='M") ∷ Number 70 ∷ Fixed (codes " ") ∷ Number y ∷ Fixed (codes "H") ∷ Number right
-    ∷ Fixed (codes "'/>\n") ∷ []) (tt, (tt, (tt, (tt, (tt, (tt, (tt, tt)))))))
-
-row_reads : (g : Grid) (row right k : ℕ) → IsInSvg (Frame.row_text g row right k)
-row_reads g row right zero = refl
-row_reads g row right (suc k) =
-    let y = top_of g row + lane g * suc k in
-    both_in (Frame.row_text g row right k) (Frame.lane_text (suc k) y right) (row_reads g row right k)
-    (both_in (Frame.name_text (suc k) y) (Frame.line_text y right) (name_reads (suc k) y) (line_reads y right))
-
-rows_read : (g : Grid) (end k : ℕ) → IsInSvg (Frame.rows_text g end k)
-rows_read g end zero = refl
-rows_read g end (suc k) =
-    both_in (Frame.rows_text g end k) (Frame.row_text g k (Frame.row_end g end k) g.n) (rows_read g end k)
-    (row_reads g k (Frame.row_end g end k) g.n)
 
 below_reads : (low : ℕ) → Leads in_svg (Frame.below_text low) in_group
 unfolding Frame.below_text
@@ -102,24 +86,14 @@ layer_reads layer window w h (suc n) =
     both_in (first_layer layer window w.setting w.cells w.steps n) _ (layer_reads layer window w h n)
     (next_reads layer window w h n (slice_get w.steps n))
 
-shades_layer_reads : (window : Window) (w : Rehearsal) → Reads shades_layer window w
-shades_layer_reads window w n step = shades_read (extended (part w n) step) (grid_of w window) (drawn_at window w n step)
-
-arrows_layer_reads : (window : Window) (w : Rehearsal) → Reads arrows_layer window w
-arrows_layer_reads window w n step =
-    let d = drawn_at window w n step in
-    arrows_read (extended (part w n) step) window (senders w.setting (take (n + 1) w.steps)) (trail_at window w n) d (drop (n + 1) w.steps)
-    (end_mild d.step d.is_quiet)
-
-marks_layer_reads : (window : Window) (w : Rehearsal) → Reads marks_layer window w
-marks_layer_reads window w n step =
-    let d = drawn_at window w n step in
-    sighted_reads (extended (part w n) step) d (spot_of (grid_of w window) d.place (actor d.step)) d.sight
-
 pub diagram_reads : (window : Window) (w : Rehearsal) → IsXml (diagram_text window w)
 diagram_reads window w =
     is_xml (diagram_text window w)
     (framed_reads (grid_of w window) _ (whole_layer shades_layer window w) (whole_layer arrows_layer window w)
-    (whole_layer marks_layer window w) (layer_reads shades_layer window w (shades_layer_reads window w) (length w.steps))
-    (layer_reads arrows_layer window w (arrows_layer_reads window w) (length w.steps))
-    (layer_reads marks_layer window w (marks_layer_reads window w) (length w.steps)))
+    (whole_layer marks_layer window w) (layer_reads shades_layer window w
+    (λ n step. shades_read (extended (part w n) step) (grid_of w window) (drawn_at window w n step)) (length w.steps))
+    (layer_reads arrows_layer window w
+    (λ n step. arrows_read (extended (part w n) step) window (senders w.setting (take (n + 1) w.steps)) (trail_at window w n)
+    (drawn_at window w n step) (drop (n + 1) w.steps)) (length w.steps))
+    (layer_reads marks_layer window w
+    (λ n step. marks_read (extended (part w n) step) (grid_of w window) (drawn_at window w n step)) (length w.steps)))

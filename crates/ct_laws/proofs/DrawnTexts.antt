@@ -1,9 +1,9 @@
 -- What a diagram has of a step is XML within its outermost element.
-use Rattle.std.proofs.Common.{ℕ, zero, suc, ◌+◌, ◌-◌, ◌/◌, ◌%◌, Bool, true, false, List, [], ◌∷◌, ◌++◌, length, refl, arith}
-use Rattle.std.proofs.Common.{codes, decimal, Option, Some, None, option_map}
+use Rattle.std.proofs.Common.{◌≡◌, ◌∙◌, ap, fold, ℕ, zero, suc, ◌+◌, ◌-◌, ◌/◌, ◌%◌, Bool, true, false, List, [], ◌∷◌, ◌++◌}
+use Rattle.std.proofs.Common.{append_assoc, length, refl, arith, codes, Option, Some, None, option_map}
 use Rattle.std.proofs.lemmas.Bool.{cond_both}
-use Rattle.std.specs.List.{concat}
-use Rattle.std.specs.Prelude.{◌==◌, ◌&&◌, map, nat_lt, if◌then◌else◌}
+use Rattle.std.proofs.lemmas.List.Sums.{fold-append}
+use Rattle.std.specs.Prelude.{◌==◌, ◌&&◌, if◌then◌else◌, map, nat_lt}
 use Rattle.ct_names.specs.Group.{is_member}
 use Rattle.ct_model.specs.Actor.{actor}
 use Rattle.ct_model.specs.State.{is_crashed}
@@ -12,15 +12,13 @@ use Rattle.ct_model.specs.Rehearsal.{Rehearsal, state_of}
 use Rattle.ct_model.specs.declared.envelope.Envelope.{Envelope}
 use Rattle.ct_model.specs.declared.phase.Phase.{Phase}
 use Rattle.ct_model.specs.declared.step.Step.{Step}
-use Rattle.ct_model.specs.declared.step.Step.TheVariants.{Receive, Begin, Enter, Choose, Adopt, Suspect, Conclude, Deliver}
-use Rattle.ct_model.specs.declared.step.Step.TheVariants.{Follow, Crash, Postpone, Lose, Repeat}
+use Rattle.ct_model.specs.declared.step.Step.TheVariants.{Receive, Begin, Enter, Choose, Adopt, Conclude, Lose, Repeat}
 use Rattle.ct_model.specs.declared.wire.Wire.{Wire}
-use Rattle.ct_model.specs.declared.wire.Wire.TheVariants.{Data, Est, Prop, Ack, Nack, Dec}
-use Rattle.ct_show.specs.Details.{detail_text, letter_of}
-use Rattle.ct_text.specs.Standing.{estimate_of, instance_of, round_of}
+use Rattle.ct_model.specs.declared.wire.Wire.TheVariants.{Data}
+use Rattle.ct_show.specs.Details.{letter_of, detail_text}
 use Rattle.ct_show.specs.Wires.{letter_at, round_text, serial_text}
 use Rattle.ct_diagram.specs.Arrows
-use Rattle.ct_diagram.specs.Grid.{row_of, spot_of, within}
+use Rattle.ct_diagram.specs.Grid.{spot_of, within}
 use Rattle.ct_diagram.specs.Marks
 use Rattle.ct_diagram.specs.Routes
 use Rattle.ct_diagram.specs.Shades
@@ -28,13 +26,18 @@ use Rattle.ct_diagram.specs.Sight.{is_wide}
 use Rattle.ct_diagram.specs.Trail.{is_taken, origin, returned, taken}
 use Rattle.ct_diagram.specs.declared.window.Window.{Window}
 use Rattle.ct_laws.specs.Diagrams.{Drawn}
-use Rattle.ct_laws.proofs.Reader.{Reading}
+use Rattle.ct_laws.proofs.Reader.{Reading, read}
 use Rattle.ct_laws.proofs.Reader.Reading.{Within, Value}
-use Rattle.ct_laws.proofs.MildTexts.{detail_mild, estimate_of_mild, if_mild, letter_of_mild, round_mild, serial_mild}
-use Rattle.ct_laws.proofs.Reading.{IsMild, Leads, Piece, leads, mild, piece_text, reads}
+use Rattle.ct_laws.proofs.MildTexts.{detail_mild, estimate_of_mild, if_mild, letter_of_mild, mild_parts, round_mild, serial_mild}
+use Rattle.ct_laws.proofs.Reading.{IsMild, Leads, Piece, leads, piece_text, reads, stays_value, stays_within}
 use Rattle.ct_laws.proofs.Reading.Piece.{Fixed, Number, Mild, Known}
+use Rattle.std.specs.List.{concat}
+use Rattle.ct_text.specs.Standing.{estimate_of, instance_of, round_of}
 
--- the types of a grid and of a point, which are of no use elsewhere
+-- the types of a sight, of a grid and of a point, which are of no use elsewhere
+abbrev OfOne : {A B : Type 0} → (A → B) → Type 0
+OfOne {A} {B} f = A
+
 abbrev OfTwo : {A B C : Type 0} → (A → B → C) → Type 0
 OfTwo {A} {B} {C} f = C
 
@@ -62,64 +65,64 @@ pub if_in : (b : Bool) (text : List ℕ) → IsInSvg text → IsInSvg (if b then
 if_in true text h = h
 if_in false text h = refl
 
-if_not_in : (b : Bool) (text : List ℕ) → IsInSvg text → IsInSvg (if b then [] else text)
-if_not_in true text h = refl
-if_not_in false text h = h
+-- ---- texts in parts
+
+-- mild text in a value, and text that begins and ends within an element, before more
+pub value_past : (names : List (List ℕ)) (name : List ℕ) (known : List (List ℕ)) (a b : List ℕ) → IsMild a →
+    fold read (Value names name known) (a ++ b) ≡ fold read (Value names name known) b
+value_past names name known a b h =
+    fold-append read (Value names name known) a b ∙ ap (λ r. fold read r b) (stays_value names name known a h)
+
+pub within_past : (name : List ℕ) (names : List (List ℕ)) (a b : List ℕ) → Leads (Within name names) a (Within name names) →
+    fold read (Within name names) (a ++ b) ≡ fold read (Within name names) b
+within_past name names a b h = fold-append read (Within name names) a b ∙ ap (λ r. fold read r b) h
+
+pub if_leads : (c : Bool) (r s : Reading) (x y : List ℕ) → Leads r x s → Leads r y s → Leads r (if c then x else y) s
+if_leads true r s x y h k = h
+if_leads false r s x y h k = k
+
+pub ruleset xml_parts = (mild_parts, value_past, within_past, stays_within, append_assoc)
 
 -- ---- lines
 
-straight_mild : (own : Bool) (from to : Spot) → IsMild (Routes.straight_text own from to)
-unfolding Routes.straight_text
-straight_mild own from to =
-    if_mild own _ _
-    (mild (Fixed (codes "M") ∷ Number from.x ∷ Fixed (codes " ") ∷ Number from.y ∷ Fixed (codes " Q") ∷ Number ((from.x + to.x) / 2)
-    ∷ Fixed (codes " ") ∷ Number (from.y - 30) ∷ Fixed (codes " ") ∷ Number to.x ∷ Fixed (codes " ") ∷ Number to.y ∷ [])
-    (refl, (refl, (refl, (refl, (refl, (refl, tt)))))))
-    (mild (Fixed (codes "M") ∷ Number from.x ∷ Fixed (codes " ") ∷ Number from.y ∷ Fixed (codes " L") ∷ Number to.x ∷ Fixed (codes " ")
-    ∷ Number to.y ∷ []) (refl, (refl, (refl, (refl, tt)))))
-
--- two numbers four times, between these letters
-eight_mild : (a b c d e f g h : ℕ) →
-    IsMild (concat (codes "M" ∷ decimal a ∷ codes " " ∷ decimal b ∷ codes " L" ∷ decimal c ∷ codes " " ∷ decimal d ∷ codes " M" ∷ decimal e
-    ∷ codes " " ∷ decimal f ∷ codes " L" ∷ decimal g ∷ codes " " ∷ decimal h ∷ []))
-eight_mild a b c d e f g h =
-    mild (Fixed (codes "M") ∷ Number a ∷ Fixed (codes " ") ∷ Number b ∷ Fixed (codes " L") ∷ Number c ∷ Fixed (codes " ") ∷ Number d
-    ∷ Fixed (codes " M") ∷ Number e ∷ Fixed (codes " ") ∷ Number f ∷ Fixed (codes " L") ∷ Number g ∷ Fixed (codes " ") ∷ Number h ∷ [])
-    (refl, (refl, (refl, (refl, (refl, (refl, (refl, (refl, tt))))))))
-
-four_mild : (a b c d : ℕ) →
-    IsMild (concat (codes "M" ∷ decimal a ∷ codes " " ∷ decimal b ∷ codes " L" ∷ decimal c ∷ codes " " ∷ decimal d ∷ []))
-four_mild a b c d =
-    mild (Fixed (codes "M") ∷ Number a ∷ Fixed (codes " ") ∷ Number b ∷ Fixed (codes " L") ∷ Number c ∷ Fixed (codes " ") ∷ Number d ∷ [])
-    (refl, (refl, (refl, (refl, tt))))
-
-over_mild : (g : Grid) (from to begun place : ℕ) → IsMild (Routes.over_text g from to begun place)
-unfolding Routes.over_text
-over_mild g from to begun place = eight_mild _ _ _ _ _ _ _ _
-
-left_mild : (g : Grid) (from to place : ℕ) → IsMild (Routes.left_text g from to place)
-unfolding Routes.left_text
-left_mild g from to place = four_mild _ _ _ _
-
 route_mild : (g : Grid) (begun : Option ℕ) (from to place : ℕ) → IsMild (Routes.route_text g begun from to place)
-route_mild g None from to place = left_mild g from to place
-route_mild g (Some begun) from to place =
-    if_mild (row_of g begun == row_of g place) _ _ (straight_mild (from == to) (spot_of g begun from) (spot_of g place to))
-    (over_mild g from to begun place)
+unfolding Routes.left_text Routes.straight_text Routes.over_text
+route_mild g begun from to place = go begun
+  where
+    go : (begun : Option ℕ) → IsMild (Routes.route_text g begun from to place)
+    go None = search mild_parts depth 20
+    go (Some begun) = search mild_parts depth 20
 
 stub_mild : (from to : ℕ) (spot : Spot) → IsMild (Routes.stub_text from to spot)
 unfolding Routes.stub_text
-stub_mild from to spot = four_mild _ _ _ _
+stub_mild from to spot = search mild_parts depth 20
 
 -- ---- arrows
 
 kind_mild : (e : Wire (Unit {0})) → IsMild (Arrows.kind_of e)
 kind_mild (Data m) = refl
-kind_mild (Est k r p v t) = refl
-kind_mild (Prop k r v) = refl
-kind_mild (Ack k r p) = refl
-kind_mild (Nack k r p) = refl
-kind_mild (Dec k r v) = refl
+kind_mild e = refl
+
+begun_word_mild : (step : Step) → IsMild (Arrows.begun_word step)
+begun_word_mild (Repeat p k) = refl
+begun_word_mild step = refl
+
+begun_in_mild : (d : Drawn) → IsMild (Arrows.begun_in d)
+unfolding Arrows.begun_in
+begun_in_mild d = let word = begun_word_mild d.step in search mild_parts
+
+begun_mild : (first : ℕ) (o : Option Drawn) → IsMild (Arrows.begun_text first o)
+unfolding Arrows.before_text
+begun_mild first None = search mild_parts
+begun_mild first (Some d) = begun_in_mild d
+
+end_word_mild : (step : Step) → IsMild (Arrows.end_word step)
+end_word_mild (Lose p k) = refl
+end_word_mild step = refl
+
+end_mild : (step : Step) (quiet : Bool) → IsMild (Arrows.end_class step quiet)
+end_mild (Lose p k) quiet = refl
+end_mild step quiet = if_mild quiet (codes " late") [] refl refl
 
 -- in the path of an arrow
 abbrev in_path : Reading
@@ -139,27 +142,6 @@ who_reads w k sender to =
     reads in_path (Fixed (codes "'><title>") ∷ Mild (serial_text w k) ∷ Fixed (codes ", sent by ") ∷ Number sender ∷ Fixed (codes " to ")
     ∷ Number to ∷ []) (tt, (serial_mild w k, (tt, (tt, (tt, (tt, tt))))))
 
-begun_word_mild : (step : Step) → IsMild (Arrows.begun_word step)
-begun_word_mild (Repeat p k) = refl
-begun_word_mild step = refl
-
-begun_in_mild : (d : Drawn) → IsMild (Arrows.begun_in d)
-unfolding Arrows.begun_in
-begun_in_mild d =
-    mild (Mild (Arrows.begun_word d.step) ∷ Fixed (codes " in step ") ∷ Number d.number ∷ []) (begun_word_mild d.step, (refl, tt))
-
-before_mild : (first : ℕ) → IsMild (Arrows.before_text first)
-unfolding Arrows.before_text
-before_mild first = mild (Fixed (codes " before step ") ∷ Number first ∷ []) (refl, tt)
-
-begun_mild : (first : ℕ) (o : Option Drawn) → IsMild (Arrows.begun_text first o)
-begun_mild first None = before_mild first
-begun_mild first (Some d) = begun_in_mild d
-
-end_word_mild : (step : Step) → IsMild (Arrows.end_word step)
-end_word_mild (Lose p k) = refl
-end_word_mild step = refl
-
 end_reads : (d : Drawn) → Leads in_title (Arrows.end_text d) in_svg
 unfolding Arrows.end_text
 end_reads d =
@@ -171,72 +153,64 @@ unfolding Arrows.last_text
 last_reads last =
     reads in_title (Fixed (codes "; not received up to step ") ∷ Number last ∷ Fixed (codes "</title></path>\n") ∷ []) (tt, (tt, (tt, tt)))
 
-arrow_reads : (w : Rehearsal) (window : Window) (sender : ℕ) (begun : Option Drawn) (d : Drawn) (k : ℕ) (e : Envelope (Unit {0})) →
-    IsMild (Arrows.end_class d.step d.is_quiet) → IsInSvg (Arrows.arrow_text w window sender begun d k e)
-unfolding Arrows.arrow_text
-arrow_reads w window sender begun d k e h =
-    reads in_svg (Known (Arrows.opening_text (Arrows.kind_of e.wire) (Arrows.end_class d.step d.is_quiet)) in_path
-    ∷ Mild (Arrows.way_text w window sender begun e.to d.place) ∷ Known (Arrows.who_text w k sender e.to) in_title
-    ∷ Mild (Arrows.begun_text window.from begun) ∷ Known (Arrows.end_text d) in_svg ∷ []) (
-      opening_reads (Arrows.kind_of e.wire) (Arrows.end_class d.step d.is_quiet) (kind_mild e.wire) h,
-      (
-        route_mild (Arrows.grid_of w window) (Arrows.begun_at begun) (Arrows.begun_by begun sender) e.to d.place,
-        (who_reads w k sender e.to, (begun_mild window.from begun, (end_reads d, tt))),
-      ),
-    )
+module _ (w : Rehearsal) (window : Window) (d : Drawn) where
+  arrow_reads : (sender : ℕ) (begun : Option Drawn) (k : ℕ) (e : Envelope (Unit {0})) →
+      IsInSvg (Arrows.arrow_text w window sender begun d k e)
+  unfolding Arrows.arrow_text
+  arrow_reads sender begun k e =
+      reads in_svg (Known (Arrows.opening_text (Arrows.kind_of e.wire) (Arrows.end_class d.step d.is_quiet)) in_path
+      ∷ Mild (Arrows.way_text w window sender begun e.to d.place) ∷ Known (Arrows.who_text w k sender e.to) in_title
+      ∷ Mild (Arrows.begun_text window.from begun) ∷ Known (Arrows.end_text d) in_svg ∷ []) (
+        opening_reads (Arrows.kind_of e.wire) (Arrows.end_class d.step d.is_quiet) (kind_mild e.wire) (end_mild d.step d.is_quiet),
+        (
+          route_mild (Arrows.grid_of w window) (Arrows.begun_at begun) (Arrows.begun_by begun sender) e.to d.place,
+          (who_reads w k sender e.to, (begun_mild window.from begun, (end_reads d, tt))),
+        ),
+      )
 
-stub_reads : (w : Rehearsal) (window : Window) (sender : ℕ) (d : Drawn) (last k : ℕ) (e : Envelope (Unit {0})) →
-    IsInSvg (Arrows.stub_arrow w window sender d last k e)
-unfolding Arrows.stub_arrow
-stub_reads w window sender d last k e =
-    reads in_svg (Known (Arrows.opening_text (Arrows.kind_of e.wire) (codes " stub")) in_path ∷ Mild (Arrows.short_text w window d e.to)
-    ∷ Known (Arrows.who_text w k sender e.to) in_title ∷ Mild (Arrows.begun_in d) ∷ Known (Arrows.last_text last) in_svg ∷ []) (
-      opening_reads (Arrows.kind_of e.wire) (codes " stub") (kind_mild e.wire) refl,
-      (
-        stub_mild (actor d.step) e.to (spot_of (Arrows.grid_of w window) d.place (actor d.step)),
-        (who_reads w k sender e.to, (begun_in_mild d, (last_reads last, tt))),
-      ),
-    )
+  arrow_of_reads : (trail : List Drawn) (k : ℕ) (o : Option (ℕ × Envelope (Unit {0}))) → IsInSvg (Arrows.arrow_of w window trail d k o)
+  arrow_of_reads trail k None = refl
+  arrow_of_reads trail k (Some sent) = arrow_reads sent.0 (origin trail k) k sent.1
 
-arrow_of_reads : (w : Rehearsal) (window : Window) (trail : List Drawn) (d : Drawn) (k : ℕ) (o : Option (ℕ × Envelope (Unit {0}))) →
-    IsMild (Arrows.end_class d.step d.is_quiet) → IsInSvg (Arrows.arrow_of w window trail d k o)
-arrow_of_reads w window trail d k None h = refl
-arrow_of_reads w window trail d k (Some sent) h = arrow_reads w window sent.0 (origin trail k) d k sent.1 h
+  stub_reads : (sender last k : ℕ) (e : Envelope (Unit {0})) → IsInSvg (Arrows.stub_arrow w window sender d last k e)
+  unfolding Arrows.stub_arrow
+  stub_reads sender last k e =
+      reads in_svg (Known (Arrows.opening_text (Arrows.kind_of e.wire) (codes " stub")) in_path ∷ Mild (Arrows.short_text w window d e.to)
+      ∷ Known (Arrows.who_text w k sender e.to) in_title ∷ Mild (Arrows.begun_in d) ∷ Known (Arrows.last_text last) in_svg ∷ []) (
+        opening_reads (Arrows.kind_of e.wire) (codes " stub") (kind_mild e.wire) refl,
+        (
+          stub_mild (actor d.step) e.to (spot_of (Arrows.grid_of w window) d.place (actor d.step)),
+          (who_reads w k sender e.to, (begun_in_mild d, (last_reads last, tt))),
+        ),
+      )
 
-taken_reads : (w : Rehearsal) (window : Window) (senders : List ℕ) (trail : List Drawn) (d : Drawn) (o : Option ℕ) →
-    IsMild (Arrows.end_class d.step d.is_quiet) → IsInSvg (Arrows.taken_text w window senders trail d o)
-taken_reads w window senders trail d None h = refl
-taken_reads w window senders trail d (Some k) h =
-    arrow_of_reads w window trail d k (Arrows.asked window senders k (letter_at w k)) h
+  stub_of_reads : (later : List Step) (k : ℕ) (o : Option (ℕ × Envelope (Unit {0}))) → IsInSvg (Arrows.stub_of w window d later k o)
+  stub_of_reads later k None = refl
+  stub_of_reads later k (Some sent) =
+      if_leads (is_taken later k) in_svg in_svg [] _ refl (stub_reads sent.0 (d.number + length later) k sent.1)
 
-stub_of_reads : (w : Rehearsal) (window : Window) (d : Drawn) (later : List Step) (k : ℕ) (o : Option (ℕ × Envelope (Unit {0}))) →
-    IsInSvg (Arrows.stub_of w window d later k o)
-stub_of_reads w window d later k None = refl
-stub_of_reads w window d later k (Some sent) =
-    if_not_in (is_taken later k) _ (stub_reads w window sent.0 d (d.number + length later) k sent.1)
+module _ (w : Rehearsal) (window : Window) (senders : List ℕ) (trail : List Drawn) (d : Drawn) (later : List Step) where
+  taken_reads : (o : Option ℕ) → IsInSvg (Arrows.taken_text w window senders trail d o)
+  taken_reads None = refl
+  taken_reads (Some k) = arrow_of_reads w window d trail k (Arrows.asked window senders k (letter_at w k))
 
-stub_at_reads : (w : Rehearsal) (window : Window) (senders : List ℕ) (d : Drawn) (later : List Step) (k : ℕ)
-    (o : Option (Envelope (Unit {0}))) → IsInSvg (Arrows.stub_at w window senders d later k o)
-stub_at_reads w window senders d later k o = stub_of_reads w window d later k (Arrows.asked window senders k o)
+  stub_at_reads : (k : ℕ) → IsInSvg (Arrows.stub_at w window senders d later k (letter_at w k))
+  stub_at_reads k = stub_of_reads w window d later k (Arrows.asked window senders k (letter_at w k))
 
-returned_reads : (w : Rehearsal) (window : Window) (senders : List ℕ) (d : Drawn) (later : List Step) (o : Option ℕ) →
-    IsInSvg (Arrows.returned_text w window senders d later o)
-returned_reads w window senders d later None = refl
-returned_reads w window senders d later (Some k) = stub_at_reads w window senders d later k (letter_at w k)
+  returned_reads : (o : Option ℕ) → IsInSvg (Arrows.returned_text w window senders d later o)
+  returned_reads None = refl
+  returned_reads (Some k) = stub_at_reads k
 
-first_stubs_read : (w : Rehearsal) (window : Window) (senders : List ℕ) (d : Drawn) (later : List Step) (j : ℕ) →
-    IsInSvg (Arrows.first_stubs w window senders d later j)
-first_stubs_read w window senders d later zero = refl
-first_stubs_read w window senders d later (suc j) =
-    both_in (Arrows.first_stubs w window senders d later j) _ (first_stubs_read w window senders d later j)
-    (stub_at_reads w window senders d later (d.before + suc j) (letter_at w (d.before + suc j)))
+  first_stubs_read : (j : ℕ) → IsInSvg (Arrows.first_stubs w window senders d later j)
+  first_stubs_read zero = refl
+  first_stubs_read (suc j) =
+      both_in (Arrows.first_stubs w window senders d later j) _ (first_stubs_read j) (stub_at_reads (d.before + suc j))
 
-pub arrows_read : (w : Rehearsal) (window : Window) (senders : List ℕ) (trail : List Drawn) (d : Drawn) (later : List Step) →
-    IsMild (Arrows.end_class d.step d.is_quiet) → IsInSvg (Arrows.arrows w window senders trail d later)
-arrows_read w window senders trail d later h =
-    both_in (Arrows.taken_text w window senders trail d (taken d.step)) _ (taken_reads w window senders trail d (taken d.step) h)
-    (both_in (Arrows.returned_text w window senders d later (returned d.step)) _
-    (returned_reads w window senders d later (returned d.step)) (first_stubs_read w window senders d later (d.sent - d.before)))
+  pub arrows_read : IsInSvg (Arrows.arrows w window senders trail d later)
+  arrows_read =
+      both_in (Arrows.taken_text w window senders trail d (taken d.step)) _ (taken_reads (taken d.step))
+      (both_in (Arrows.returned_text w window senders d later (returned d.step)) _ (returned_reads (returned d.step))
+      (first_stubs_read (d.sent - d.before)))
 
 -- ---- shades
 
@@ -273,24 +247,9 @@ first_shades_read w g place (suc k) =
     both_in (Shades.first_shades w g place k) _ (first_shades_read w g place k)
     (shade_reads (Shades.class_of w (suc k)) (spot_of g place (suc k)) (class_of_mild w (suc k)))
 
-rule_reads : (top low : Spot) → IsInSvg (Shades.rule_text top low)
-unfolding Shades.rule_text
-rule_reads top low =
-    reads in_svg (Fixed (codes "<path class='grid' d='M") ∷ Number top.x ∷ Fixed (codes " ") ∷ Number (top.y + 46) ∷ Fixed (codes "V")
-    ∷ Number (low.y + 44) ∷ Fixed (codes "'/>\n") ∷ []) (tt, (tt, (tt, (tt, (tt, (tt, (tt, tt)))))))
-
-digits_read : (number x y : ℕ) → IsInSvg (Shades.digits_text number x y)
-unfolding Shades.digits_text
-digits_read number x y =
-    reads in_svg (Fixed (codes "<text class='number' x='") ∷ Number x ∷ Fixed (codes "' y='") ∷ Number y ∷ Fixed (codes "'>")
-    ∷ Number number ∷ Fixed (codes "</text>\n") ∷ []) (tt, (tt, (tt, (tt, (tt, (tt, (tt, tt)))))))
-
 number_reads : (number : ℕ) (top low : Spot) → IsInSvg (Shades.this_number number top low)
-unfolding Shades.this_number
-number_reads number top low =
-    reads in_svg (Known (Shades.rule_text top low) in_svg ∷ Known (Shades.digits_text number top.x (top.y + 42)) in_svg
-    ∷ Known (Shades.digits_text number top.x (low.y + 56)) in_svg ∷ [])
-    (rule_reads top low, (digits_read number top.x (top.y + 42), (digits_read number top.x (low.y + 56), tt)))
+unfolding Shades.this_number Shades.rule_text Shades.digits_text
+number_reads number top low = simp xml_parts
 
 pub shades_read : (w : Rehearsal) (g : Grid) (d : Drawn) → IsInSvg (Shades.shades w g d)
 shades_read w g d =
@@ -306,14 +265,11 @@ in_group = Within (codes "g") (codes "svg" ∷ [])
 
 class_mild : (w : Rehearsal) (before : ℕ) (step : Step) → IsMild (Marks.class_of w before step)
 class_mild w before (Conclude p) = if_mild (length (state_of w).sent == before) (codes "own") (codes "decision") refl refl
-class_mild w before (Suspect p) = refl
-class_mild w before (Crash p) = refl
-class_mild w before (Deliver p) = refl
-class_mild w before (Follow p) = refl
-class_mild w before (Postpone p k) = refl
-class_mild w before (Lose p k) = refl
-class_mild w before (Repeat p k) = refl
 class_mild w before step = refl
+
+kind_at_mild : (o : Option (Envelope (Unit {0}))) → IsMild (Marks.kind_at o)
+kind_at_mild None = refl
+kind_at_mild (Some e) = kind_mild e.wire
 
 dot_reads : (kind : List ℕ) (spot : Spot) (radius : ℕ) → IsMild kind → Leads in_group (Marks.dot_text kind spot radius) in_group
 unfolding Marks.dot_text
@@ -333,10 +289,6 @@ unfolding Marks.letter_text
 letter_reads letter spot h =
     reads in_group (Fixed (codes "<text x='") ∷ Number spot.x ∷ Fixed (codes "' y='") ∷ Number (spot.y + 4) ∷ Fixed (codes "'>")
     ∷ Mild letter ∷ Fixed (codes "</text>") ∷ []) (tt, (tt, (tt, (tt, (tt, (h, (tt, tt)))))))
-
-kind_at_mild : (o : Option (Envelope (Unit {0}))) → IsMild (Marks.kind_at o)
-kind_at_mild None = refl
-kind_at_mild (Some e) = kind_mild e.wire
 
 sign_reads : (w : Rehearsal) (before : ℕ) (step : Step) (spot : Spot) → Leads in_group (Marks.sign_text w before step spot) in_group
 sign_reads w before (Receive p k) spot = dot_reads (Marks.kind_at (letter_at w k)) spot 4 (kind_at_mild (letter_at w k))
@@ -373,10 +325,6 @@ entered_reads w p spot =
 abbrev in_text : Reading
 in_text = Within (codes "text") (codes "svg" ∷ [])
 
-if_leads : (b : Bool) (from to : Reading) (x y : List ℕ) → Leads from x to → Leads from y to → Leads from (if b then x else y) to
-if_leads true from to x y h k = h
-if_leads false from to x y h k = k
-
 abbrev left_note : ℕ → ℕ → List Piece
 left_note x y =
     Fixed (codes "<text class='note left' x='") ∷ Number x ∷ Fixed (codes "' y='") ∷ Number y
@@ -407,14 +355,14 @@ note_reads w (Choose p from) spot = changed_reads w p spot
 note_reads w (Adopt p) spot = changed_reads w p spot
 note_reads w step spot = refl
 
-pub mark_reads : (w : Rehearsal) (d : Drawn) (spot : Spot) → IsInSvg (Marks.mark_text w d spot)
+mark_reads : (w : Rehearsal) (d : Drawn) (spot : Spot) → IsInSvg (Marks.mark_text w d spot)
 unfolding Marks.mark_text
 mark_reads w d spot =
     reads in_svg (Known (Marks.note_text w d.step spot) in_svg ∷ Known (Marks.title_text w d.before d.number d.step) in_group
     ∷ Known (Marks.sign_text w d.before d.step spot) in_group ∷ Fixed (codes "</g>\n") ∷ [])
     (note_reads w d.step spot, (title_reads w d.before d.number d.step, (sign_reads w d.before d.step spot, (tt, tt))))
 
-pub small_reads : (w : Rehearsal) (d : Drawn) (spot : Spot) → IsInSvg (Marks.small_text w d spot)
+small_reads : (w : Rehearsal) (d : Drawn) (spot : Spot) → IsInSvg (Marks.small_text w d spot)
 unfolding Marks.small_text
 small_reads w d spot =
     reads in_svg (Known (Marks.title_text w d.before d.number d.step) in_group
@@ -423,19 +371,12 @@ small_reads w d spot =
 
 -- ---- how a step is drawn
 
-abbrev OfOne : {A B : Type 0} → (A → B) → Type 0
-OfOne {A} {B} f = A
-
-abbrev pub Sight : Type 0
-Sight = OfOne is_wide
-
-pub end_mild : (step : Step) (quiet : Bool) → IsMild (Arrows.end_class step quiet)
-end_mild (Lose p k) quiet = refl
-end_mild step quiet = if_mild quiet (codes " late") [] refl refl
-
-pub sighted_reads : (w : Rehearsal) (d : Drawn) (spot : Spot) (sight : Sight) → IsInSvg (Marks.sighted_text w d spot sight)
-sighted_reads w d spot sight = go sight (mark_reads w d spot) (small_reads w d spot)
+pub marks_read : (w : Rehearsal) (g : Grid) (d : Drawn) → IsInSvg (Marks.marks w g d)
+marks_read w g d = go d.sight (mark_reads w d spot) (small_reads w d spot)
   where
-    go : (sight : Sight) → IsInSvg (Marks.mark_text w d spot) → IsInSvg (Marks.small_text w d spot) →
+    spot : Spot
+    spot = spot_of g d.place (actor d.step)
+
+    go : (sight : OfOne is_wide) → IsInSvg (Marks.mark_text w d spot) → IsInSvg (Marks.small_text w d spot) →
         IsInSvg (Marks.sighted_text w d spot sight)
     go sight h k = grind arith

@@ -117,17 +117,6 @@ IsEnding [] name rest = ⊥
 IsEnding (first ∷ names) name rest =
     (letters : List ℕ) × (later : List ℕ) × (rest ≡ letters ++ (62 ∷ later)) × (first ≡ name ++ letters) × Closes names later
 
--- more of an attribute's name, its value, and the rest of the tag
-record IsAttribute (names : List (List ℕ)) (name : List ℕ) (known : List (List ℕ)) (attribute rest : List ℕ) : Type 0 where
-  pub letters : List ℕ
-  pub value : List ℕ
-  pub behind : List ℕ
-  pub all : rest ≡ letters ++ (61 ∷ 39 ∷ (value ++ (39 ∷ behind)))
-  pub are : list_all is_letter letters ≡ true
-  pub other : list_any (bytes_eq (attribute ++ letters)) known ≡ false
-  pub values : list_all is_in_value value ≡ true
-  pub tail : IsTail names name ((attribute ++ letters) ∷ known) behind
-
 -- more of a value, and the rest of the tag
 record IsValue (names : List (List ℕ)) (name : List ℕ) (known : List (List ℕ)) (rest : List ℕ) : Type 0 where
   pub value : List ℕ
@@ -135,6 +124,15 @@ record IsValue (names : List (List ℕ)) (name : List ℕ) (known : List (List �
   pub all : rest ≡ value ++ (39 ∷ behind)
   pub values : list_all is_in_value value ≡ true
   pub tail : IsTail names name known behind
+
+-- more of an attribute's name, its value, and the rest of the tag
+record IsAttribute (names : List (List ℕ)) (name : List ℕ) (known : List (List ℕ)) (attribute rest : List ℕ) : Type 0 where
+  pub letters : List ℕ
+  pub later : List ℕ
+  pub all : rest ≡ letters ++ (61 ∷ 39 ∷ later)
+  pub are : list_all is_letter letters ≡ true
+  pub other : list_any (bytes_eq (attribute ++ letters)) known ≡ false
+  pub value : IsValue names name ((attribute ++ letters) ∷ known) later
 
 -- more of the name of a tag, and the rest of it
 record IsNamed (names : List (List ℕ)) (name rest : List ℕ) : Type 0 where
@@ -144,23 +142,13 @@ record IsNamed (names : List (List ℕ)) (name rest : List ℕ) : Type 0 where
   pub are : list_all is_letter letters ≡ true
   pub tail : IsTail names (name ++ letters) [] behind
 
--- an attribute that begins here
-record IsSpaced (names : List (List ℕ)) (name : List ℕ) (known : List (List ℕ)) (rest : List ℕ) : Type 0 where
-  pub attribute : List ℕ
-  pub value : List ℕ
-  pub behind : List ℕ
-  pub all : rest ≡ attribute ++ (61 ∷ 39 ∷ (value ++ (39 ∷ behind)))
-  pub is : IsName attribute
-  pub other : list_any (bytes_eq attribute) known ≡ false
-  pub values : list_all is_in_value value ≡ true
-  pub tail : IsTail names name (attribute ∷ known) behind
-
 abbrev Rest : Reading → List ℕ → Type 0
 Rest Start rest = IsXml rest
 Rest (Within name names) rest = Closes (name ∷ names) rest
 Rest (Begun names) rest = IsBegun names rest ⊎ ((later : List ℕ) × (rest ≡ 47 ∷ later) × IsEnding names [] later)
 Rest (Named names name) rest = IsNamed names name rest
-Rest (Spaced names name known) rest = IsSpaced names name known rest
+Rest (Spaced names name known) rest =
+    (b : ℕ) × (later : List ℕ) × (rest ≡ b ∷ later) × (is_letter b ≡ true) × IsAttribute names name known (b ∷ []) later
 Rest (Attribute names name known attribute) rest = IsAttribute names name known attribute rest
 Rest (Equals names name known) rest = (later : List ℕ) × (rest ≡ 39 ∷ later) × IsValue names name known later
 Rest (Value names name known) rest = IsValue names name known rest
@@ -180,89 +168,80 @@ closed_rest (name ∷ names) rest h = h
 here : (b c : ℕ) (rest later : List ℕ) → (b == c) ≡ true → rest ≡ later → b ∷ rest ≡ c ∷ later
 here b c rest later h k = ap (λ x. x ∷ rest) (same_number b c h) ∙ ap (λ l. c ∷ l) k
 
+-- the byte passes a test or not
+either : (c : Bool) (r s : Reading) (rest : List ℕ) → Rest (if c then r else s) rest → ((c ≡ true) × Rest r rest) ⊎ Rest s rest
+either true r s rest h = inl (refl, h)
+either false r s rest h = inr h
+
+only : (c : Bool) (r : Reading) (rest : List ℕ) → Rest (if c then r else Wrong) rest → (c ≡ true) × Rest r rest
+only true r rest h = (refl, h)
+only false r rest h = absurd h
+
 spaced_tail : (names : List (List ℕ)) (name : List ℕ) (known : List (List ℕ)) (b : ℕ) (rest : List ℕ) → (b == 32) ≡ true →
-    IsSpaced names name known rest → IsTail names name known (b ∷ rest)
+    Rest (Spaced names name known) rest → IsTail names name known (b ∷ rest)
 spaced_tail names name known b rest is h =
-    let t = h.tail in
+    let a = h.4 in
+    let v = a.value in
+    let t = v.tail in
     record {
-      attributes = 32 ∷ (h.attribute ++ (61 ∷ 39 ∷ (h.value ++ (39 ∷ (t.attributes ++ [])))));
+      attributes = 32 ∷ h.0 ∷ (a.letters ++ (61 ∷ 39 ∷ (v.value ++ (39 ∷ (t.attributes ++ [])))));
       behind = t.behind;
-      all = here b 32 rest (h.attribute ++ (61 ∷ 39 ∷ (h.value ++ (39 ∷ h.behind)))) is h.all
-          ∙ ap (λ l. 32 ∷ (h.attribute ++ (61 ∷ 39 ∷ (h.value ++ (39 ∷ l))))) t.all
-          ∙ ap (λ l. 32 ∷ (h.attribute ++ (61 ∷ 39 ∷ (h.value ++ (39 ∷ (l ++ t.behind)))))) (sym (append-nil t.attributes))
-          ∙ ap (λ l. 32 ∷ (h.attribute ++ (61 ∷ 39 ∷ l))) (sym (append_assoc h.value (39 ∷ (t.attributes ++ [])) t.behind))
-          ∙ ap (λ l. 32 ∷ l) (sym (append_assoc h.attribute (61 ∷ 39 ∷ (h.value ++ (39 ∷ (t.attributes ++ [])))) t.behind));
-      are = more h.attribute h.value t.attributes h.is h.other h.values t.are;
+      all = here b 32 rest _ is (simp (h.2, a.all, v.all, t.all, append_assoc));
+      are = more (h.0 ∷ a.letters) v.value t.attributes (both (is_letter h.0) (list_all is_letter a.letters) h.3 a.are) a.other v.values
+          t.are;
       end = t.end;
     }
 
-tag_rest : (names : List (List ℕ)) (name : List ℕ) (known : List (List ℕ)) (b : ℕ) (rest : List ℕ) (c d e : Bool) → (b == 32) ≡ c →
-    (b == 62) ≡ d → (b == 47) ≡ e →
-    Rest (if c then Spaced names name known else (if d then Within name names else (if e then Closing names else Wrong))) rest →
-    IsTail names name known (b ∷ rest)
-tag_rest names name known b rest true d e is_c is_d is_e h = spaced_tail names name known b rest is_c h
-tag_rest names name known b rest false true e is_c is_d is_e h = record {
-  attributes = [];
-  behind = b ∷ rest;
-  all = refl;
-  are = none;
-  end = inr (rest, here b 62 rest rest is_d refl, h);
-}
-tag_rest names name known b rest false false true is_c is_d is_e h = record {
-  attributes = [];
-  behind = b ∷ rest;
-  all = refl;
-  are = none;
-  end = inl (h.0, here b 47 rest (62 ∷ h.0) is_e h.1, h.2);
-}
-tag_rest names name known b rest false false false is_c is_d is_e h = absurd h
-
 in_tag_rest : (names : List (List ℕ)) (name : List ℕ) (known : List (List ℕ)) (b : ℕ) (rest : List ℕ) →
     Rest (in_tag names name known b) rest → IsTail names name known (b ∷ rest)
-in_tag_rest names name known b rest h = tag_rest names name known b rest (b == 32) (b == 62) (b == 47) refl refl refl h
+in_tag_rest names name known b rest h =
+    let ends : Reading = if b == 47 then Closing names else Wrong in
+    elim (either (b == 32) (Spaced names name known) (if b == 62 then Within name names else ends) rest h) [
+      | inl s ↦ spaced_tail names name known b rest s.0 s.1
+      | inr r ↦ record {
+        attributes = [];
+        behind = b ∷ rest;
+        all = refl;
+        are = none;
+        end = elim (either (b == 62) (Within name names) ends rest r) [
+          | inl o ↦ inr (rest, here b 62 rest rest o.0 refl, o.1)
+          | inr c ↦
+              let o = only (b == 47) (Closing names) rest c in
+              inl (o.1.0, here b 47 rest (62 ∷ o.1.0) o.0 o.1.1, o.1.2)
+        ];
+      }
+    ]
 
-named_rest : (names : List (List ℕ)) (name : List ℕ) (b : ℕ) (rest : List ℕ) (c : Bool) → is_letter b ≡ c →
-    Rest (if c then Named names (name ++ b ∷ []) else in_tag names name [] b) rest → IsNamed names name (b ∷ rest)
-named_rest names name b rest true is h = record {
-  letters = b ∷ h.letters;
-  behind = h.behind;
-  all = ap (λ l. b ∷ l) h.all;
-  are = both (is_letter b) (list_all is_letter h.letters) is h.are;
-  tail = subst (λ n. IsTail names n [] h.behind) (append_assoc name (b ∷ []) h.letters) h.tail;
-}
-named_rest names name b rest false is h = record {
-  letters = [];
-  behind = b ∷ rest;
-  all = refl;
-  are = refl;
-  tail = subst (λ n. IsTail names n [] (b ∷ rest)) (sym (append-nil name)) (in_tag_rest names name [] b rest h);
-}
+named_rest : (names : List (List ℕ)) (name : List ℕ) (b : ℕ) (rest : List ℕ) →
+    Rest (if is_letter b then Named names (name ++ b ∷ []) else in_tag names name [] b) rest → IsNamed names name (b ∷ rest)
+named_rest names name b rest h =
+    elim (either (is_letter b) (Named names (name ++ b ∷ [])) (in_tag names name [] b) rest h) [
+      | inl n ↦
+          let l = n.1 in
+          record {
+            letters = b ∷ l.letters;
+            behind = l.behind;
+            all = ap (λ x. b ∷ x) l.all;
+            are = both (is_letter b) (list_all is_letter l.letters) n.0 l.are;
+            tail = subst (λ x. IsTail names x [] l.behind) (append_assoc name (b ∷ []) l.letters) l.tail;
+          }
+      | inr t ↦ record {
+        letters = [];
+        behind = b ∷ rest;
+        all = refl;
+        are = refl;
+        tail = subst (λ x. IsTail names x [] (b ∷ rest)) (sym (append-nil name)) (in_tag_rest names name [] b rest t);
+      }
+    ]
 
 -- ---- an element
-
-alone_all : (name attributes later : List ℕ) →
-    60 ∷ (name ++ (attributes ++ (47 ∷ 62 ∷ later))) ≡ (60 ∷ (name ++ (attributes ++ (47 ∷ 62 ∷ [])))) ++ later
-alone_all name attributes later =
-    ap (λ l. 60 ∷ (name ++ l)) (sym (append_assoc attributes (47 ∷ 62 ∷ []) later))
-    ∙ ap (λ l. 60 ∷ l) (sym (append_assoc name (attributes ++ (47 ∷ 62 ∷ [])) later))
-
-around_all : (name attributes content later : List ℕ) →
-    60 ∷ (name ++ (attributes ++ (62 ∷ (content ++ (60 ∷ 47 ∷ (name ++ (62 ∷ later)))))))
-    ≡ (60 ∷ (name ++ (attributes ++ (62 ∷ (content ++ (60 ∷ 47 ∷ (name ++ (62 ∷ [])))))))) ++ later
-around_all name attributes content later =
-    let last : List ℕ = name ++ (62 ∷ []) in
-    let inner : List ℕ = content ++ (60 ∷ 47 ∷ last) in
-    ap (λ l. 60 ∷ (name ++ (attributes ++ (62 ∷ (content ++ (60 ∷ 47 ∷ l)))))) (sym (append_assoc name (62 ∷ []) later))
-    ∙ ap (λ l. 60 ∷ (name ++ (attributes ++ (62 ∷ l)))) (sym (append_assoc content (60 ∷ 47 ∷ last) later))
-    ∙ ap (λ l. 60 ∷ (name ++ l)) (sym (append_assoc attributes (62 ∷ inner) later))
-    ∙ ap (λ l. 60 ∷ l) (sym (append_assoc name (attributes ++ (62 ∷ inner)) later))
 
 ended_tag : (names : List (List ℕ)) (name attributes behind : List ℕ) → IsName name → AreAttributes [] attributes →
     IsTagEnd names name behind → IsBegun names (name ++ (attributes ++ behind))
 ended_tag names name attributes behind is are (inl h) = record {
   first = 60 ∷ (name ++ (attributes ++ (47 ∷ 62 ∷ [])));
   later = h.0;
-  all = ap (λ l. 60 ∷ (name ++ (attributes ++ l))) h.1 ∙ alone_all name attributes h.0;
+  all = simp (h.1, append_assoc);
   is = alone name attributes is are;
   closes = h.2;
 }
@@ -271,175 +250,144 @@ ended_tag names name attributes behind is are (inr h) =
     record {
       first = 60 ∷ (name ++ (attributes ++ (62 ∷ (in_it.0 ++ (60 ∷ 47 ∷ (name ++ (62 ∷ [])))))));
       later = in_it.1;
-      all = ap (λ l. 60 ∷ (name ++ (attributes ++ l))) h.1 ∙ ap (λ l. 60 ∷ (name ++ (attributes ++ (62 ∷ l)))) in_it.2
-          ∙ around_all name attributes in_it.0 in_it.1;
+      all = simp (h.1, in_it.2, append_assoc);
       is = around name attributes in_it.0 is are in_it.3;
       closes = in_it.4;
     }
 
-begun_rest : (names : List (List ℕ)) (b : ℕ) (rest : List ℕ) (c d : Bool) → is_letter b ≡ c → (b == 47) ≡ d →
-    Rest (if c then Named names (b ∷ []) else (if d then Ending names [] else Wrong)) rest → Rest (Begun names) (b ∷ rest)
-begun_rest names b rest true d is_c is_d h =
-    let t = h.tail in
-    let name : List ℕ = b ∷ h.letters in
-    inl (subst (λ l. IsBegun names (b ∷ l)) (sym (h.all ∙ ap (λ l. h.letters ++ l) t.all))
-    (ended_tag names name t.attributes t.behind (both (is_letter b) (list_all is_letter h.letters) is_c h.are) t.are t.end))
-begun_rest names b rest false true is_c is_d h = inr (rest, here b 47 rest rest is_d refl, h)
-begun_rest names b rest false false is_c is_d h = absurd h
+begun_rest : (names : List (List ℕ)) (b : ℕ) (rest : List ℕ) → Rest (read (Begun names) b) rest → Rest (Begun names) (b ∷ rest)
+begun_rest names b rest h =
+    let ends : Reading = if b == 47 then Ending names [] else Wrong in
+    elim (either (is_letter b) (Named names (b ∷ [])) ends rest h) [
+      | inl n ↦
+          let l = n.1 in
+          let t = l.tail in
+          inl (subst (λ x. IsBegun names (b ∷ x)) (sym (l.all ∙ ap (λ x. l.letters ++ x) t.all))
+          (ended_tag names (b ∷ l.letters) t.attributes t.behind (both (is_letter b) (list_all is_letter l.letters) n.0 l.are) t.are t.end))
+      | inr e ↦ let o = only (b == 47) (Ending names []) rest e in inr (rest, here b 47 rest rest o.0 refl, o.1)
+    ]
 
 begun_within : (name : List ℕ) (names : List (List ℕ)) (rest : List ℕ) → Rest (Begun (name ∷ names)) rest →
     Closes (name ∷ names) (60 ∷ rest)
 begun_within name names rest (inl h) =
-    let in_it = h.closes in (
-      h.first ++ in_it.0,
-      in_it.1,
-      h.all ∙ ap (λ l. h.first ++ l) in_it.2 ∙ sym (append_assoc h.first in_it.0 (60 ∷ 47 ∷ (name ++ (62 ∷ in_it.1)))),
-      element h.first in_it.0 h.is in_it.3,
-      in_it.4,
-    )
+    let in_it = h.closes in
+    (h.first ++ in_it.0, in_it.1, simp (h.all, in_it.2, append_assoc), element h.first in_it.0 h.is in_it.3, in_it.4)
 begun_within name names rest (inr h) =
-    let in_it = h.2 in (
-      [],
-      in_it.1,
-      ap (λ l. 60 ∷ l) h.1 ∙ ap (λ l. 60 ∷ 47 ∷ l) in_it.2 ∙ ap (λ l. 60 ∷ 47 ∷ (l ++ (62 ∷ in_it.1))) (sym in_it.3),
-      nothing,
-      in_it.4,
-    )
+    let in_it = h.2 in
+    ([], in_it.1, simp (h.1, in_it.2, in_it.3), nothing, in_it.4)
 
-within_rest : (name : List ℕ) (names : List (List ℕ)) (b : ℕ) (rest : List ℕ) (c d : Bool) → (b == 60) ≡ c → is_plain b ≡ d →
-    Rest (if c then Begun (name ∷ names) else (if d then Within name names else Wrong)) rest → Closes (name ∷ names) (b ∷ rest)
-within_rest name names b rest true d is_c is_d h =
-    subst (λ l. Closes (name ∷ names) l) (sym (here b 60 rest rest is_c refl)) (begun_within name names rest h)
-within_rest name names b rest false true is_c is_d h = (b ∷ h.0, h.1, ap (λ l. b ∷ l) h.2, text is_d h.3, h.4)
-within_rest name names b rest false false is_c is_d h = absurd h
+within_rest : (name : List ℕ) (names : List (List ℕ)) (b : ℕ) (rest : List ℕ) → Rest (read (Within name names) b) rest →
+    Closes (name ∷ names) (b ∷ rest)
+within_rest name names b rest h =
+    let plain : Reading = if is_plain b then Within name names else Wrong in
+    elim (either (b == 60) (Begun (name ∷ names)) plain rest h) [
+      | inl o ↦ subst (λ l. Closes (name ∷ names) l) (sym (here b 60 rest rest o.0 refl)) (begun_within name names rest o.1)
+      | inr p ↦
+          let o = only (is_plain b) (Within name names) rest p in
+          (b ∷ o.1.0, o.1.1, ap (λ l. b ∷ l) o.1.2, text o.0 o.1.3, o.1.4)
+    ]
 
 start_begun : (rest : List ℕ) → Rest (Begun []) rest → IsXml (60 ∷ rest)
 start_begun rest (inl h) = record { root = h.first; behind = h.later; all = h.all; is = h.is; blank = h.closes }
 start_begun rest (inr h) = absurd h.2
 
-start_rest : (b : ℕ) (rest : List ℕ) (c : Bool) → (b == 60) ≡ c → Rest (if c then Begun [] else Wrong) rest → IsXml (b ∷ rest)
-start_rest b rest true is h = subst IsXml (sym (here b 60 rest rest is refl)) (start_begun rest h)
-start_rest b rest false is h = absurd h
-
 -- ---- attributes
 
-spaced_rest : (names : List (List ℕ)) (name : List ℕ) (known : List (List ℕ)) (b : ℕ) (rest : List ℕ) (c : Bool) → is_letter b ≡ c →
-    Rest (if c then Attribute names name known (b ∷ []) else Wrong) rest → IsSpaced names name known (b ∷ rest)
-spaced_rest names name known b rest true is h = record {
-  attribute = b ∷ h.letters;
-  value = h.value;
-  behind = h.behind;
-  all = ap (λ l. b ∷ l) h.all;
-  is = both (is_letter b) (list_all is_letter h.letters) is h.are;
-  other = h.other;
-  values = h.values;
-  tail = h.tail;
-}
-spaced_rest names name known b rest false is h = absurd h
-
-attribute_rest : (names : List (List ℕ)) (name : List ℕ) (known : List (List ℕ)) (attribute : List ℕ) (b : ℕ) (rest : List ℕ)
-    (c d e : Bool) → is_letter b ≡ c → (b == 61) ≡ d → list_any (bytes_eq attribute) known ≡ e →
-    Rest (if c then Attribute names name known (attribute ++ b ∷ [])
-    else (if d then (if e then Wrong else Equals names name (attribute ∷ known)) else Wrong)) rest →
-    IsAttribute names name known attribute (b ∷ rest)
-attribute_rest names name known attribute b rest true d e is_c is_d is_e h =
-    let same = append_assoc attribute (b ∷ []) h.letters in
-    record {
-      letters = b ∷ h.letters;
-      value = h.value;
-      behind = h.behind;
-      all = ap (λ l. b ∷ l) h.all;
-      are = both (is_letter b) (list_all is_letter h.letters) is_c h.are;
-      other = subst (λ n. list_any (bytes_eq n) known ≡ false) same h.other;
-      values = h.values;
-      tail = subst (λ n. IsTail names name (n ∷ known) h.behind) same h.tail;
-    }
-attribute_rest names name known attribute b rest false true false is_c is_d is_e h =
-    let same = sym (append-nil attribute) in
-    let v = h.2 in
-    record {
+attribute_rest : (names : List (List ℕ)) (name : List ℕ) (known : List (List ℕ)) (attribute : List ℕ) (b : ℕ) (rest : List ℕ) →
+    Rest (read (Attribute names name known attribute) b) rest → IsAttribute names name known attribute (b ∷ rest)
+attribute_rest names name known attribute b rest h =
+    let known_so : Bool = list_any (bytes_eq attribute) known in
+    let equals : Reading = if known_so then Wrong else Equals names name (attribute ∷ known) in
+    elim (either (is_letter b) (Attribute names name known (attribute ++ b ∷ [])) (if b == 61 then equals else Wrong) rest h) [
+      | inl n ↦
+          let l = n.1 in
+          let same = append_assoc attribute (b ∷ []) l.letters in
+          record {
+            letters = b ∷ l.letters;
+            later = l.later;
+            all = ap (λ x. b ∷ x) l.all;
+            are = both (is_letter b) (list_all is_letter l.letters) n.0 l.are;
+            other = subst (λ x. list_any (bytes_eq x) known ≡ false) same l.other;
+            value = subst (λ x. IsValue names name (x ∷ known) l.later) same l.value;
+          }
+      | inr e ↦ let o = only (b == 61) equals rest e in ended o.0 known_so refl o.1
+    ]
+  where
+    ended : (b == 61) ≡ true → (c : Bool) → list_any (bytes_eq attribute) known ≡ c →
+        Rest (if c then Wrong else Equals names name (attribute ∷ known)) rest → IsAttribute names name known attribute (b ∷ rest)
+    ended is true other e = absurd e
+    ended is false other e = record {
       letters = [];
-      value = v.value;
-      behind = v.behind;
-      all = here b 61 rest (39 ∷ (v.value ++ (39 ∷ v.behind))) is_d (h.1 ∙ ap (λ l. 39 ∷ l) v.all);
+      later = e.0;
+      all = here b 61 rest (39 ∷ e.0) is e.1;
       are = refl;
-      other = subst (λ n. list_any (bytes_eq n) known ≡ false) same is_e;
-      values = v.values;
-      tail = subst (λ n. IsTail names name (n ∷ known) v.behind) same v.tail;
+      other = subst (λ x. list_any (bytes_eq x) known ≡ false) (sym (append-nil attribute)) other;
+      value = subst (λ x. IsValue names name (x ∷ known) e.0) (sym (append-nil attribute)) e.2;
     }
-attribute_rest names name known attribute b rest false true true is_c is_d is_e h = absurd h
-attribute_rest names name known attribute b rest false false e is_c is_d is_e h = absurd h
 
-equals_rest : (names : List (List ℕ)) (name : List ℕ) (known : List (List ℕ)) (b : ℕ) (rest : List ℕ) (c : Bool) → (b == 39) ≡ c →
-    Rest (if c then Value names name known else Wrong) rest → Rest (Equals names name known) (b ∷ rest)
-equals_rest names name known b rest true is h = (rest, here b 39 rest rest is refl, h)
-equals_rest names name known b rest false is h = absurd h
-
-value_rest : (names : List (List ℕ)) (name : List ℕ) (known : List (List ℕ)) (b : ℕ) (rest : List ℕ) (c d : Bool) → (b == 39) ≡ c →
-    is_in_value b ≡ d → Rest (if c then Valued names name known else (if d then Value names name known else Wrong)) rest →
-    IsValue names name known (b ∷ rest)
-value_rest names name known b rest true d is_c is_d h = record {
-  value = [];
-  behind = rest;
-  all = here b 39 rest rest is_c refl;
-  values = refl;
-  tail = h;
-}
-value_rest names name known b rest false true is_c is_d h = record {
-  value = b ∷ h.value;
-  behind = h.behind;
-  all = ap (λ l. b ∷ l) h.all;
-  values = both (is_in_value b) (list_all is_in_value h.value) is_d h.values;
-  tail = h.tail;
-}
-value_rest names name known b rest false false is_c is_d h = absurd h
+value_rest : (names : List (List ℕ)) (name : List ℕ) (known : List (List ℕ)) (b : ℕ) (rest : List ℕ) →
+    Rest (read (Value names name known) b) rest → IsValue names name known (b ∷ rest)
+value_rest names name known b rest h =
+    let plain : Reading = if is_in_value b then Value names name known else Wrong in
+    elim (either (b == 39) (Valued names name known) plain rest h) [
+      | inl o ↦ record { value = []; behind = rest; all = here b 39 rest rest o.0 refl; values = refl; tail = o.1 }
+      | inr p ↦
+          let o = only (is_in_value b) (Value names name known) rest p in
+          let v = o.1 in
+          record {
+            value = b ∷ v.value;
+            behind = v.behind;
+            all = ap (λ x. b ∷ x) v.all;
+            values = both (is_in_value b) (list_all is_in_value v.value) o.0 v.values;
+            tail = v.tail;
+          }
+    ]
 
 -- ---- tags that end
 
-closing_rest : (names : List (List ℕ)) (b : ℕ) (rest : List ℕ) (c : Bool) → (b == 62) ≡ c → Rest (if c then closed names else Wrong) rest →
-    Rest (Closing names) (b ∷ rest)
-closing_rest names b rest true is h = (rest, here b 62 rest rest is refl, closed_rest names rest h)
-closing_rest names b rest false is h = absurd h
-
-left_rest : (first : List ℕ) (names : List (List ℕ)) (name : List ℕ) (b : ℕ) (rest : List ℕ) (e : Bool) → bytes_eq first name ≡ e →
-    (b == 62) ≡ true → Rest (if e then closed names else Wrong) rest → IsEnding (first ∷ names) name (b ∷ rest)
-left_rest first names name b rest true is_e is h =
-    let same : first ≡ name = (bytes_eq-Decides first name).0 is_e in
-    ([], rest, here b 62 rest rest is refl, same ∙ sym (append-nil name), closed_rest names rest h)
-left_rest first names name b rest false is_e is h = absurd h
-
-ending_rest : (names : List (List ℕ)) (name : List ℕ) (b : ℕ) (rest : List ℕ) (c d : Bool) → is_letter b ≡ c → (b == 62) ≡ d →
-    Rest (if c then Ending names (name ++ b ∷ []) else (if d then left names name else Wrong)) rest → IsEnding names name (b ∷ rest)
-ending_rest [] name b rest true d is_c is_d h = absurd h
-ending_rest [] name b rest false true is_c is_d h = absurd h
-ending_rest [] name b rest false false is_c is_d h = absurd h
-ending_rest (first ∷ names) name b rest true d is_c is_d h =
-    (b ∷ h.0, h.1, ap (λ l. b ∷ l) h.2, h.3 ∙ append_assoc name (b ∷ []) h.0, h.4)
-ending_rest (first ∷ names) name b rest false true is_c is_d h =
-    left_rest first names name b rest (bytes_eq first name) refl is_d h
-ending_rest (first ∷ names) name b rest false false is_c is_d h = absurd h
-
-end_rest : (b : ℕ) (rest : List ℕ) (c : Bool) → (b == 10) ≡ c → Rest (if c then End else Wrong) rest →
-    list_all is_line_feed (b ∷ rest) ≡ true
-end_rest b rest true is h = both (b == 10) (list_all is_line_feed rest) is h
-end_rest b rest false is h = absurd h
+ending_rest : (names : List (List ℕ)) (name : List ℕ) (b : ℕ) (rest : List ℕ) → Rest (read (Ending names name) b) rest →
+    IsEnding names name (b ∷ rest)
+ending_rest [] name b rest h =
+    elim (either (is_letter b) (Ending [] (name ++ b ∷ [])) (if b == 62 then Wrong else Wrong) rest h) [
+      | inl o ↦ o.1
+      | inr e ↦ (only (b == 62) Wrong rest e).1
+    ]
+ending_rest (first ∷ names) name b rest h =
+    let out : Reading = if bytes_eq first name then closed names else Wrong in
+    elim (either (is_letter b) (Ending (first ∷ names) (name ++ b ∷ [])) (if b == 62 then out else Wrong) rest h) [
+      | inl o ↦
+          let e = o.1 in
+          (b ∷ e.0, e.1, ap (λ l. b ∷ l) e.2, e.3 ∙ append_assoc name (b ∷ []) e.0, e.4)
+      | inr e ↦
+          let o = only (b == 62) out rest e in
+          let c = only (bytes_eq first name) (closed names) rest o.1 in
+          let same : first ≡ name = (bytes_eq-Decides first name).0 c.0 in
+          ([], rest, here b 62 rest rest o.0 refl, same ∙ sym (append-nil name), closed_rest names rest c.1)
+    ]
 
 -- ---- all of it
 
 before : (r : Reading) (b : ℕ) (rest : List ℕ) → Rest (read r b) rest → Rest r (b ∷ rest)
-before Start b rest h = start_rest b rest (b == 60) refl h
-before (Within name names) b rest h = within_rest name names b rest (b == 60) (is_plain b) refl refl h
-before (Begun names) b rest h = begun_rest names b rest (is_letter b) (b == 47) refl refl h
-before (Named names name) b rest h = named_rest names name b rest (is_letter b) refl h
-before (Spaced names name known) b rest h = spaced_rest names name known b rest (is_letter b) refl h
-before (Attribute names name known attribute) b rest h =
-    attribute_rest names name known attribute b rest (is_letter b) (b == 61) (list_any (bytes_eq attribute) known) refl refl refl h
-before (Equals names name known) b rest h = equals_rest names name known b rest (b == 39) refl h
-before (Value names name known) b rest h = value_rest names name known b rest (b == 39) (is_in_value b) refl refl h
+before Start b rest h =
+    let o = only (b == 60) (Begun []) rest h in
+    subst IsXml (sym (here b 60 rest rest o.0 refl)) (start_begun rest o.1)
+before (Within name names) b rest h = within_rest name names b rest h
+before (Begun names) b rest h = begun_rest names b rest h
+before (Named names name) b rest h = named_rest names name b rest h
+before (Spaced names name known) b rest h =
+    let o = only (is_letter b) (Attribute names name known (b ∷ [])) rest h in
+    (b, rest, refl, o.0, o.1)
+before (Attribute names name known attribute) b rest h = attribute_rest names name known attribute b rest h
+before (Equals names name known) b rest h =
+    let o = only (b == 39) (Value names name known) rest h in
+    (rest, here b 39 rest rest o.0 refl, o.1)
+before (Value names name known) b rest h = value_rest names name known b rest h
 before (Valued names name known) b rest h = in_tag_rest names name known b rest h
-before (Closing names) b rest h = closing_rest names b rest (b == 62) refl h
-before (Ending names name) b rest h = ending_rest names name b rest (is_letter b) (b == 62) refl refl h
-before End b rest h = end_rest b rest (b == 10) refl h
+before (Closing names) b rest h =
+    let o = only (b == 62) (closed names) rest h in
+    (rest, here b 62 rest rest o.0 refl, closed_rest names rest o.1)
+before (Ending names name) b rest h = ending_rest names name b rest h
+before End b rest h = let o = only (b == 10) End rest h in both (b == 10) (list_all is_line_feed rest) o.0 o.1
 before Wrong b rest h = absurd h
 
 nothing_left : (r : Reading) → r ≡ End → Rest r []
