@@ -1,7 +1,8 @@
 -- Walks, turn by turn.
 use Rattle.std.proofs.Common.{◌≡◌, ◌+◌, ◌-◌, ℕ, zero, suc, Bool, true, false, List, [], ◌∷◌, ◌++◌, refl, ap, sym, ◌∙◌, subst, arith}
+use Rattle.std.proofs.lemmas.Bool.{cond_both}
 use Rattle.std.proofs.lemmas.List.{append_cancel_left}
-use Rattle.std.specs.Prelude.{◌%◌, ◌==◌, ◌&&◌, not, get_or, if◌then◌else◌, nat_lt, Option, Some, None, is_none, option_map, slice_get, ⊤}
+use Rattle.std.specs.Prelude.{◌==◌, ◌&&◌, not, get_or, if◌then◌else◌, Option, Some, None, is_none, option_map, slice_get, ⊤}
 use Rattle.rand_pcg.specs.Lcg.{Lcg}
 use Rattle.ct_names.specs.Prefix.{IsPrefix}
 use Rattle.ct_names.specs.declared.refusal.Refusal.{Refusal}
@@ -10,7 +11,7 @@ use Rattle.ct_model.specs.Rehearsal.{Rehearsal, empty, extended}
 use Rattle.ct_model.specs.declared.step.Step.{Step}
 use Rattle.ct_model.specs.declared.step.Step.TheVariants as step
 use Rattle.ct_world.specs.Driving.{next_local}
-use Rattle.ct_detect.specs.Seeded.{SeededState, after_word, next_word}
+use Rattle.ct_detect.specs.Seeded.{SeededState, after_word}
 use Rattle.ct_detect.specs.declared.ask.Ask.{Ask}
 use Rattle.ct_choices.specs.Choices.{after_try, chosen, first_waiting, has_crashed, question, receives}
 use Rattle.ct_rehearse.specs.Entries.{entry_step}
@@ -21,10 +22,10 @@ use Rattle.ct_program.specs.FreeOptions.{setting_of}
 use Rattle.ct_program.specs.Seeding.{first_detectors}
 use Rattle.ct_play.specs.Played.{Played}
 use Rattle.ct_walk.specs.Shown.{is_shown_by}
-use Rattle.ct_walk.specs.Adversary.{after_place, after_suspicion, at_ask, is_rare, may_last, suspects_by, tries}
-use Rattle.ct_walk.specs.Walking.{Walk, after_chance, after_entry, after_script, answer, changed, changed_now, drawn, drawn_scripts}
-use Rattle.ct_walk.specs.Walking.{driven, entered, has_left, is_due, is_struck, lasts, left_of, made_by, may_change, most_turns}
-use Rattle.ct_walk.specs.Walking.{receives_at, start, suspects, turned, walked, walked_for, workers}
+use Rattle.ct_walk.specs.Adversary.{after_place, after_suspicion, at_ask, may_last, suspects_by, tries}
+use Rattle.ct_walk.specs.Walking.{Walk, after_chance, after_entry, after_script, answer, changed, changed_now, drawn}
+use Rattle.ct_walk.specs.Walking.{driven, entered, lasts, left_of, made_by, most_turns}
+use Rattle.ct_walk.specs.Walking.{receives_at, start, suspects, turned, walked, walked_for}
 use Rattle.ct_walk.specs.declared.options.WalkOptions.{WalkOptions}
 use Rattle.ct_laws.specs.Places.{AreAllowed, behind}
 use Rattle.ct_laws.specs.Walks.{HaveNoSuspicion, is_suspicion}
@@ -45,43 +46,24 @@ receipt_calm p (Some k) = refl
 chosen_calm : (p : ℕ) (serial : Option ℕ) (o : Option Step) → IsCalm (chosen p serial false o)
 chosen_calm p serial None = receipt_calm p serial
 chosen_calm p serial (Some (step.Suspect q)) = receipt_calm p serial
-chosen_calm p serial (Some (step.Submit q c)) = refl
-chosen_calm p serial (Some (step.Receive q k)) = refl
-chosen_calm p serial (Some (step.Begin q)) = refl
-chosen_calm p serial (Some (step.Enter q)) = refl
-chosen_calm p serial (Some (step.Choose q from)) = refl
-chosen_calm p serial (Some (step.Adopt q)) = refl
-chosen_calm p serial (Some (step.Conclude q)) = refl
-chosen_calm p serial (Some (step.Deliver q)) = refl
-chosen_calm p serial (Some (step.Follow q)) = refl
-chosen_calm p serial (Some (step.Crash q)) = refl
-chosen_calm p serial (Some (step.Postpone q k)) = refl
-chosen_calm p serial (Some (step.Lose q k)) = refl
-chosen_calm p serial (Some (step.Repeat q k)) = refl
-
-if_calm : (c : Bool) (o : Option Step) → IsCalm o → IsCalm (if c then None else o)
-if_calm true o h = tt
-if_calm false o h = h
+chosen_calm p serial (Some other) = refl
 
 tries_calm : (w : Rehearsal) (p : ℕ) (serial : Option ℕ) → IsCalm (tries w p serial false)
 unfolding tries
 tries_calm w p serial =
-    if_calm (has_crashed w p) (chosen p serial false (next_local w p)) (chosen_calm p serial (next_local w p))
+    let o = next_local w p in
+    cond_both (has_crashed w p) None (chosen p serial false o) IsCalm (λ e. tt) (λ e. chosen_calm p serial o)
 
-postpone_calm : (p : ℕ) (o : Option ℕ) → IsCalm (option_map (step.Postpone p) o)
-postpone_calm p None = tt
-postpone_calm p (Some k) = refl
-
-lose_calm : (p : ℕ) (o : Option ℕ) → IsCalm (option_map (step.Lose p) o)
-lose_calm p None = tt
-lose_calm p (Some k) = refl
+some_calm : (f : ℕ → Step) → ((k : ℕ) → is_suspicion (f k) ≡ false) → (o : Option ℕ) → IsCalm (option_map f o)
+some_calm f is None = tt
+some_calm f is (Some k) = is k
 
 entry_calm : (w : Rehearsal) (e : Disturbance) → IsCalm (entry_step w e)
 unfolding entry_step
 entry_calm w (entry.Submit p c) = refl
 entry_calm w (entry.Crash p) = refl
-entry_calm w (entry.Postpone p) = postpone_calm p (first_waiting w p)
-entry_calm w (entry.Lose p) = lose_calm p (first_waiting w p)
+entry_calm w (entry.Postpone p) = some_calm (step.Postpone p) (λ k. refl) (first_waiting w p)
+entry_calm w (entry.Lose p) = some_calm (step.Lose p) (λ k. refl) (first_waiting w p)
 entry_calm w (entry.Repeat p k) = refl
 
 -- ---- records that grow
@@ -216,6 +198,13 @@ stays quiet w v same detectors suspected h = record {
   silent = same_silent quiet w v detectors suspected h;
 }
 
+if_on : (quiet c : Bool) (w u v : Walk) → HasGone quiet w u → HasGone quiet w v → HasGone quiet w (if c then u else v)
+if_on quiet true w u v h k = h
+if_on quiet false w u v h k = k
+
+gone_on : (quiet : Bool) (u v w : Walk) → HasGone quiet u v → HasGone quiet v w → HasGone quiet u w
+gone_on quiet u v w g h = record { goes = goes_on quiet u.rehearsal v.rehearsal w.rehearsal g.goes h.goes; silent = h.silent }
+
 driven_on : (quiet : Bool) (o : WalkOptions) (w : Walk) (p : ℕ) → AreSilent quiet w → HasGone quiet w (driven o w p)
 unfolding driven
 driven_on quiet o w p h =
@@ -244,44 +233,21 @@ script_on : (quiet : Bool) (w : Walk) (o : Option ℕ) → AreSilent quiet w →
 script_on quiet w None h = stays quiet w w refl refl refl h
 script_on quiet w (Some i) h = entered_on quiet w i h
 
-if_on : (quiet c : Bool) (w u v : Walk) → HasGone quiet w u → HasGone quiet w v → HasGone quiet w (if c then u else v)
-if_on quiet true w u v h k = h
-if_on quiet false w u v h k = k
-
-made_on : (quiet : Bool) (o : WalkOptions) (w : Walk) (k : ℕ) → AreSilent quiet w → HasGone quiet w (made_by o w k)
-unfolding made_by
-made_on quiet o w k h =
-    let n = w.rehearsal.setting.members in
-    let i = slice_get (drawn_scripts o w) (k - n) in
-    if_on quiet (nat_lt k n) w (driven o w (k + 1)) (after_script w i) (driven_on quiet o w (k + 1) h) (script_on quiet w i h)
-
 drawn_on : (quiet : Bool) (o : WalkOptions) (w : Walk) → AreSilent quiet w → HasGone quiet w (drawn o w)
-unfolding drawn
+unfolding drawn made_by
 drawn_on quiet o w h =
     let v = record w { draws = after_word w.draws } in
-    let gone = made_on quiet o v (next_word w.draws % workers o w) (same_silent quiet w v refl refl h) in
+    let same = same_silent quiet w v refl refl h in
+    let gone : HasGone quiet v (drawn o w) = search (if_on, driven_on, script_on, same) in
     record { goes = gone.goes; silent = gone.silent }
-
-gone_on : (quiet : Bool) (u v w : Walk) → HasGone quiet u v → HasGone quiet v w → HasGone quiet u w
-gone_on quiet u v w g h = record { goes = goes_on quiet u.rehearsal v.rehearsal w.rehearsal g.goes h.goes; silent = h.silent }
 
 changed_on : (quiet : Bool) (w : Walk) → AreSilent quiet w → HasGone quiet w (changed_now w)
 unfolding changed_now
-changed_on quiet w h =
-    let v = record w { draws = after_word w.draws } in
-    let cuts = record v { cut = next_word v.draws % 65536; cuts = v.cuts - 1; draws = after_word v.draws } in
-    if_on quiet (may_change w) w (if is_rare (next_word w.draws) then changed v else v) w
-    (if_on quiet (is_rare (next_word w.draws)) w (changed v) v
-    (if_on quiet (v.cut == 0) w cuts (record v { cut = 0 }) (stays quiet w cuts refl refl refl h)
-    (stays quiet w (record v { cut = 0 }) refl refl refl h))
-    (stays quiet w v refl refl refl h))
-    (stays quiet w w refl refl refl h)
+changed_on quiet w h = search (if_on, stays)
 
 chance_on : (quiet : Bool) (w : Walk) → AreSilent quiet w → HasGone quiet w (after_chance w)
 unfolding after_chance
-chance_on quiet w h =
-    if_on quiet (has_left w 4) w (record w { draws = after_word w.draws }) w
-    (stays quiet w (record w { draws = after_word w.draws }) refl refl refl h) (stays quiet w w refl refl refl h)
+chance_on quiet w h = search (if_on, stays)
 
 -- before the turn itself
 before_on : (quiet : Bool) (w : Walk) → AreSilent quiet w → HasGone quiet w (after_chance (changed_now w))
@@ -294,11 +260,8 @@ unfolding turned
 turned_on quiet o number w h =
     let u = after_chance (changed_now w) in
     let before = before_on quiet w h in
-    let rest = if is_due o number u then entered u 0 else drawn o u in
-    let struck = is_struck (changed_now w) in
-    gone_on quiet w u (if struck then entered u 4 else rest) before
-    (if_on quiet struck u (entered u 4) rest (entered_on quiet u 4 before.silent)
-    (if_on quiet (is_due o number u) u (entered u 0) (drawn o u) (entered_on quiet u 0 before.silent) (drawn_on quiet o u before.silent)))
+    let rest : HasGone quiet u (turned o number w) = search (if_on, entered_on, drawn_on, before.silent) in
+    gone_on quiet w u (turned o number w) before rest
 
 -- the steps of a record begin those after a turn
 pub turn_begins : (o : WalkOptions) (number : ℕ) (w : Walk) → IsPrefix w.rehearsal.steps (turned o number w).rehearsal.steps
@@ -309,11 +272,6 @@ turn_begins o number w =
 
 -- ---- the walk
 
-if_goes : (quiet c : Bool) (w : Rehearsal) (u v : Walk) → Goes quiet w u.rehearsal → Goes quiet w v.rehearsal →
-    Goes quiet w (if c then u else v).rehearsal
-if_goes quiet true w u v h k = h
-if_goes quiet false w u v h k = k
-
 walk_goes : (quiet : Bool) (o : WalkOptions) (made more : ℕ) (w : Walk) → AreSilent quiet w →
     Goes quiet w.rehearsal (walked_for o made more w).rehearsal
 unfolding walked_for
@@ -322,8 +280,8 @@ walk_goes quiet o made (suc more) w h =
     let v = turned o (made + 1) w in
     let gone = turned_on quiet o (made + 1) w h in
     let rest = walked_for o (made + 1) more v in
-    if_goes quiet (is_shown_by v.until v.rehearsal) w.rehearsal v rest gone.goes
-    (goes_on quiet w.rehearsal v.rehearsal rest.rehearsal gone.goes (walk_goes quiet o (made + 1) more v gone.silent))
+    cond_both (is_shown_by v.until v.rehearsal) v rest (λ (u : Walk). Goes quiet w.rehearsal u.rehearsal) (λ e. gone.goes)
+    (λ e. goes_on quiet w.rehearsal v.rehearsal rest.rehearsal gone.goes (walk_goes quiet o (made + 1) more v gone.silent))
 
 first_silent : (o : WalkOptions) (until : Option Goal) → o.run.rate ≡ 0 → IsSilent (start o until)
 unfolding start

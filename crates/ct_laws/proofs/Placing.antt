@@ -28,6 +28,7 @@ use Rattle.ct_judging.specs.Schedule.{after_line, after_lines, finished, line_ov
 use Rattle.ct_judging.specs.Standing.{Standing, given_in, headed, made_of, made_with, played_of, played_or_made, record_in, start, world_of}
 use Rattle.ct_judging.specs.Telling.{Explained, told, told_if}
 use Rattle.ct_judging.specs.declared.heading.Heading.{Heading}
+use Rattle.ct_judging.specs.declared.misread.Misread.{Misread}
 use Rattle.ct_laws.specs.Places.{AreAllowed, AreOf, ArePlaces, EachIsAllowed, HasPlaces, IsLine, IsPlay, IsShown, behind, joined}
 use Rattle.ct_laws.proofs.Deeds.{Grows, act_grows, allowed_both, both_behind, going_on, grows_more, nothing_behind, stated_grows, grows_not}
 use Rattle.ct_laws.proofs.Expecting.Showing.{shows_so}
@@ -139,19 +140,9 @@ expects_grows s t goal h =
     (grows_not (λ steps. EachIsAllowed s.rehearsal → (steps ≡ []) × IsShown s.rehearsal goal) s
     (λ whole. (refl, expected_shows s t goal on.2 whole)))
 
--- the steps of a line that is understood
-abbrev IsHere : Rehearsal → Line → List Step → Type 0
-IsHere w Blank steps = steps ≡ []
-IsHere w (Given given) steps = steps ≡ []
-IsHere w (Plays play) steps = IsPlay w play steps
-
 -- nothing joined the record
 grows_still : (s t : Played) → t.rehearsal ≡ s.rehearsal → Grows (λ steps. steps ≡ []) s t
 grows_still s t same = record { steps = []; is = same ∙ sym (nothing_behind s.rehearsal); allowed = tt; so = refl }
-
-rehearsal_in : Played → Result Played LineFault → Rehearsal
-rehearsal_in s (Ok t) = t.rehearsal
-rehearsal_in s (Err fault) = s.rehearsal
 
 -- whatever the record is
 anyhow : (P : List Step → Type 0) (s t : Played) → Grows P s t → Grows (λ steps. EachIsAllowed s.rehearsal → P steps) s t
@@ -159,24 +150,15 @@ anyhow P s t g = grows_more P (λ steps. EachIsAllowed s.rehearsal → P steps) 
 
 play_grows : (s t : Played) (play : Play) → played s play ≡ Ok t →
     Grows (λ steps. EachIsAllowed s.rehearsal → IsPlay s.rehearsal play steps) s t
-unfolding rehearsal_in
-play_grows s t (Act by act) h =
-    anyhow (IsPlay s.rehearsal (Act by act)) s t (act_grows by act (named s.rehearsal.setting.members by) s t h)
-play_grows s t (Stated by act text) h =
-    anyhow (IsPlay s.rehearsal (Stated by act text)) s t (stated_grows by act text (named s.rehearsal.setting.members by) s t h)
-play_grows s t (Turns by n set) h =
-    anyhow (IsPlay s.rehearsal (Turns by n set)) s t (turned_grows s t (Turns by n set) by n h)
-play_grows s t (Settle by set) h =
-    anyhow (IsPlay s.rehearsal (Settle by set)) s t (settled_grows s t (Settle by set) by h)
+play_grows s t (Act by act) h = anyhow _ s t (act_grows by act (named s.rehearsal.setting.members by) s t h)
+play_grows s t (Stated by act text) h = anyhow _ s t (stated_grows by act text (named s.rehearsal.setting.members by) s t h)
+play_grows s t (Turns by n set) h = anyhow _ s t (turned_grows s t (Turns by n set) by n h)
+play_grows s t (Settle by set) h = anyhow _ s t (settled_grows s t (Settle by set) by h)
 play_grows s t (Until by set goal) h = reached_grows s t (Until by set goal) by goal h
-play_grows s t (Cut sides) h =
-    anyhow (IsPlay s.rehearsal (Cut sides)) s t
-    (grows_still s t (sym (ap (λ (r : Result Played LineFault). rehearsal_in s r) h)))
-play_grows s t Heal h =
-    anyhow (IsPlay s.rehearsal Heal) s t (grows_still s t (sym (ap (λ (r : Result Played LineFault). rehearsal_in s r) h)))
+play_grows s t (Cut sides) h = anyhow _ s t (grows_still s t (cc h))
+play_grows s t Heal h = anyhow _ s t (grows_still s t (cc h))
 play_grows s t (Expect goal) h = expects_grows s t goal h
-play_grows s t (Ask question) h =
-    anyhow (IsPlay s.rehearsal (Ask question)) s t (grows_still s t (ap (λ (u : Played). u.rehearsal) (asked_same s t question h)))
+play_grows s t (Ask question) h = anyhow _ s t (grows_still s t (ap (λ (u : Played). u.rehearsal) (asked_same s t question h)))
 
 -- ---- where a line begins
 
@@ -193,7 +175,7 @@ record IsPlaced (w : Rehearsal) (s u : Standing) (Has : Rehearsal → List Step 
 
 made_empty : (h : Heading) (o : Option ℕ) (p : Played) (w : Rehearsal) → made_of h o ≡ Ok p → p.rehearsal.setting ≡ w.setting →
     p.rehearsal.cells ≡ w.cells → empty w.setting w.cells ≡ p.rehearsal
-made_empty h None p w is setting cells = absurd (cc is)
+made_empty h None p w is setting cells = absurd (cc)
 made_empty h (Some n) p w is setting cells =
     let same : p ≡ made_with h n = sym (cc is) in
     ap (λ (s : Setting). empty s w.cells) (sym setting) ∙ ap (λ c. empty p.rehearsal.setting c) (sym cells)
@@ -206,13 +188,6 @@ begins h (Some q) p w is setting cells =
     let same : q ≡ p = cc is in
     ap (λ (r : Played). r.rehearsal) same
 
--- the same group
-grown_setting : (p q : Played) (own : List Step) → q.rehearsal ≡ behind p.rehearsal own → q.rehearsal.setting ≡ p.rehearsal.setting
-grown_setting p q own is = ap (λ (w : Rehearsal). w.setting) is
-
-grown_cells : (p q : Played) (own : List Step) → q.rehearsal ≡ behind p.rehearsal own → q.rehearsal.cells ≡ p.rehearsal.cells
-grown_cells p q own is = ap (λ (w : Rehearsal). w.cells) is
-
 in_placed : (w : Rehearsal) (s u : Standing) (play : Play) (p q : Played) (rest : List Step) → played_of s ≡ Ok p →
     played p play ≡ Ok q → u ≡ record s { played = Some q } → behind (from w u.played) rest ≡ w →
     IsPlaced w s u (λ v steps. EachIsAllowed v → IsPlay v play steps)
@@ -222,8 +197,8 @@ in_placed w s u play p q rest of by at end =
     let from_u : from w u.played ≡ q.rehearsal = ap (λ (v : Standing). from w v.played) at in
     let last : behind q.rehearsal rest ≡ w = ap (λ v. behind v rest) (sym from_u) ∙ end in
     let setting : p.rehearsal.setting ≡ w.setting =
-    sym (grown_setting p q g.steps g.is) ∙ ap (λ (v : Rehearsal). v.setting) last in
-    let cells : p.rehearsal.cells ≡ w.cells = sym (grown_cells p q g.steps g.is) ∙ ap (λ (v : Rehearsal). v.cells) last in
+    sym (ap (λ (v : Rehearsal). v.setting) g.is) ∙ ap (λ (v : Rehearsal). v.setting) last in
+    let cells : p.rehearsal.cells ≡ w.cells = sym (ap (λ (v : Rehearsal). v.cells) g.is) ∙ ap (λ (v : Rehearsal). v.cells) last in
     let from_s : from w s.played ≡ p.rehearsal = begins s.heading s.played p w of setting cells in
     record {
       own = g.steps;
@@ -259,20 +234,14 @@ given_still s u (Some heading) h =
     ap (λ (v : Standing). v.played) (if_free (is_some s.played) (record s { heading = heading }) u h).1
 
 line_placed : (w : Rehearsal) (s u : Standing) (line : Line) (rest : List Step) → taken s line ≡ Ok u →
-    behind (from w u.played) rest ≡ w → IsPlaced w s u (λ v steps. EachIsAllowed v → IsHere v line steps)
-line_placed w s u Blank rest h end =
-    let same : s ≡ u = cc h in
-    still_placed w s u (ap (λ (v : Standing). v.played) (sym same))
+    behind (from w u.played) rest ≡ w → IsPlaced w s u (λ v steps. EachIsAllowed v → IsLine {E = Misread} v (Ok line) steps)
+line_placed w s u Blank rest h end = still_placed w s u (cc h)
 line_placed w s u (Given given) rest h end = still_placed w s u (given_still s u (given_in s.heading given) h)
 line_placed w s u (Plays play) rest h end = play_placed w s u play rest (played_of s) refl h end
 
-told_placed : (w : Rehearsal) (s u : Standing) (r : _) (rest : List Step) → told_if s r ≡ Ok u →
+told_placed : (w : Rehearsal) (s u : Standing) (r : Result Line Misread) (rest : List Step) → told_if s r ≡ Ok u →
     behind (from w u.played) rest ≡ w → IsPlaced w s u (λ v steps. EachIsAllowed v → IsLine v r steps)
-told_placed w s u (Ok Blank) rest h end = line_placed w s u Blank rest (plainly s u Blank (taken s Blank) h) end
-told_placed w s u (Ok (Given given)) rest h end =
-    line_placed w s u (Given given) rest (plainly s u (Given given) (taken s (Given given)) h) end
-told_placed w s u (Ok (Plays play)) rest h end =
-    line_placed w s u (Plays play) rest (plainly s u (Plays play) (taken s (Plays play)) h) end
+told_placed w s u (Ok line) rest h end = line_placed w s u line rest (plainly s u line (taken s line) h) end
 told_placed w s u (Err misread) rest h end = absurd (cc h)
 
 -- ---- all lines
@@ -283,17 +252,17 @@ record AreAll (w : Rehearsal) (s : Standing) (lines : List (List ℕ)) : Type 0 
   pub allowed : AreAllowed (from w s.played) (joined places)
   pub are : EachIsAllowed (from w s.played) → ArePlaces (from w s.played) lines places
 
-ended_made : (h : Heading) (o : Option ℕ) (w : Rehearsal) → record_in (made_of h o) ≡ Ok w → behind (empty w.setting w.cells) [] ≡ w
-ended_made h None w is = absurd (cc is)
-ended_made h (Some n) w is =
-    let same : (made_with h n).rehearsal ≡ w = cc is in
-    subst (λ v. behind (empty v.setting v.cells) [] ≡ v) same refl
-
 ended_with : (h : Heading) (o : Option Played) (w : Rehearsal) → record_in (played_or_made h o) ≡ Ok w → behind (from w o) [] ≡ w
 ended_with h (Some p) w is =
     let same : p.rehearsal ≡ w = cc is in
     nothing_behind p.rehearsal ∙ same
-ended_with h None w is = ended_made h h.group w is
+ended_with h None w is = ended_made h.group is
+  where
+    ended_made : (n : Option ℕ) → record_in (made_of h n) ≡ Ok w → behind (empty w.setting w.cells) [] ≡ w
+    ended_made None is = absurd (cc is)
+    ended_made (Some n) is =
+        let same : (made_with h n).rehearsal ≡ w = cc is in
+        subst (λ v. behind (empty v.setting v.cells) [] ≡ v) same refl
 
 one_placed : (w : Rehearsal) (s u : Standing) (line : List ℕ) (lines : List (List ℕ)) → told_if s (line_in line) ≡ Ok u →
     AreAll w u lines → AreAll w s (line ∷ lines)
