@@ -23,7 +23,7 @@ use Rattle.ct_program.specs.Seeding.{first_detectors}
 use Rattle.ct_play.specs.Played.{Played}
 use Rattle.ct_walk.specs.Shown.{is_shown_by}
 use Rattle.ct_walk.specs.Adversary.{after_place, after_suspicion, at_ask, may_last, suspects_by, tries}
-use Rattle.ct_walk.specs.Walking.{Walk, after_chance, after_entry, after_script, answer, changed, changed_now, drawn}
+use Rattle.ct_walk.specs.Walking.{Walk, after_chance, after_entry, after_script, answer, changed_now, drawn}
 use Rattle.ct_walk.specs.Walking.{driven, entered, lasts, left_of, made_by, most_turns}
 use Rattle.ct_walk.specs.Walking.{receives_at, start, suspects, turned, walked, walked_for}
 use Rattle.ct_walk.specs.declared.options.WalkOptions.{WalkOptions}
