@@ -7,4 +7,3 @@ pub mod ReadFitting
 pub mod ReportMild
 pub mod StateMild
 pub mod StepsMild
-pub mod StepsRead

@@ -1,6 +1,6 @@
 -- The numbers of a record whose steps are all allowed: those that its wires and its messages have.
-use Rattle.std.proofs.Common.{◌≡◌, ℕ, zero, suc, ◌≤◌, ◌<◌, List, [], ◌∷◌, ◌++◌, length, take, Option, Some, None, refl}
-use Rattle.std.proofs.Common.{sym, ap, ◌∙◌, subst, inl, inr, arith}
+use Rattle.std.proofs.Common.{◌≡◌, ℕ, zero, suc, ◌≤◌, ◌<◌, List, [], ◌∷◌, ◌++◌, length, take, Option, Some, None, refl, sym, ap, ◌∙◌, subst}
+use Rattle.std.proofs.Common.{inl, inr, arith}
 use Rattle.std.specs.Prelude.{⊤, map, slice_get}
 use Rattle.ct_names.specs.Command.{is_good}
 use Rattle.ct_names.specs.declared.limit.TheConstants.{MAX_INSTANCES, MAX_ROUNDS}
@@ -16,8 +16,8 @@ use Rattle.ct_model.specs.declared.mail.Mail.TheVariants.{Nobody, One, All}
 use Rattle.ct_model.specs.declared.moves.Move.{Move}
 use Rattle.ct_model.specs.declared.moves.Move.TheVariants as moves
 use Rattle.ct_model.specs.declared.step.Step.{Step}
-use Rattle.ct_model.specs.declared.step.Step.TheVariants.{Submit, Receive, Begin, Enter, Choose, Adopt, Suspect, Conclude, Deliver}
-use Rattle.ct_model.specs.declared.step.Step.TheVariants.{Follow, Crash, Postpone, Lose, Repeat}
+use Rattle.ct_model.specs.declared.step.Step.TheVariants.{Submit, Receive, Begin, Enter, Choose, Adopt, Suspect, Conclude, Deliver, Follow}
+use Rattle.ct_model.specs.declared.step.Step.TheVariants.{Crash, Postpone, Lose, Repeat}
 use Rattle.ct_model.specs.declared.wire.Wire.TheVariants.{Data, Est, Prop, Ack, Nack, Dec}
 use Rattle.ct_model.specs.Lawful.{IsLawful}
 use Rattle.ct_model.specs.Next.{Outcome, after, crash, is_relayed, line_row, own_ballots, plain, receive, round_row, row, submit, turn_at}
@@ -40,8 +40,7 @@ use Rattle.ct_model.proofs.Record.Start.{lawful-first}
 use Rattle.ct_model.proofs.Relay.Messages.{in_members, next-is}
 use Rattle.ct_model.proofs.Steps.Mail.{carried-if}
 use Rattle.ct_model.proofs.Steps.Rows.{adopt-is, begin_row-is, choose-is, conclude-is, deliver_row-is, enter-is, follow_row-is}
-use Rattle.ct_model.proofs.Steps.Rows.{round_row-is}
-use Rattle.ct_model.proofs.Steps.Rows.{suspect-is}
+use Rattle.ct_model.proofs.Steps.Rows.{round_row-is, suspect-is}
 use Rattle.ct_model.proofs.Steps.Shapes.{by_shape}
 use Rattle.ct_records.specs.Fits.{AllFit, CommandFits, StepFits}
 use Rattle.ct_world.specs.Replay.{AllowsFirst, first_steps}

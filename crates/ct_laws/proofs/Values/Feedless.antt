@@ -1,12 +1,12 @@
 -- Compact texts have no line feed, so each is a line of its own.
-use Rattle.std.proofs.Common.{◌≡◌, ◌⊎◌, inl, inr, ℕ, zero, suc, ◌<◌, ◌≤◌, Bool, true, false, not, ◌&&◌, List, [], ◌∷◌, ◌++◌, map}
-use Rattle.std.proofs.Common.{refl, ap, sym, ◌∙◌, subst, append_assoc, arith, decimal}
+use Rattle.std.proofs.Common.{◌≡◌, ◌⊎◌, inl, inr, ℕ, zero, suc, ◌<◌, ◌≤◌, Bool, true, false, not, ◌&&◌, List, [], ◌∷◌, ◌++◌, map, refl, ap}
+use Rattle.std.proofs.Common.{sym, ◌∙◌, subst, append_assoc, arith, decimal}
 use Rattle.std.proofs.lemmas.Bool.{cases_eq, cases_lt, ne_eqb, and_parts}
 use Rattle.std.specs.List.{list_all}
 use Rattle.json.specs.Print.{escape, escape_byte, quoted}
 use Rattle.json.proofs.Printed.Strings.{escape_byte_plain}
-use Rattle.serde_json.specs.Data.{Num, unsigned, negative, float, Data, null, boolean, number, string, array, object, Items, no_items}
-use Rattle.serde_json.specs.Data.{item, Members, no_members, member}
+use Rattle.serde_json.specs.Data.{Num, unsigned, negative, float, Data, null, boolean, number, string, array, object, Items, no_items, item}
+use Rattle.serde_json.specs.Data.{Members, no_members, member}
 use Rattle.serde_json.specs.Written.{comma_if, compact_text, items_text, members_text}
 use Rattle.ct_grammar.specs.Texts.{is_feed}
 use Rattle.ct_laws.specs.JsonValues.{AreRead}
@@ -15,7 +15,7 @@ use Rattle.ct_laws.proofs.Values.Compact.{compact_read}
 use Rattle.ct_laws.proofs.Plain.{ArePlain, IsPlain, ended, lines_ended}
 use Rattle.ct_json.specs.Fields.{lines_text}
 use Rattle.ct_json.proofs.Unescaped.{AreSelf, decimal_self}
-use Rattle.ct_laws.proofs.Values.Mild.{Each, HasWholeNumbers, IsMild, IsWhole, ItemsHaveWholeNumbers, MembersHaveWholeNumbers, mild}
+use Rattle.ct_laws.proofs.Values.Mild.{Each, IsMild, IsWhole, ItemsAreMild, MembersAreMild}
 
 both_plain : (xs ys : List ℕ) → IsPlain xs → IsPlain ys → IsPlain (xs ++ ys)
 both_plain [] ys h k = k
@@ -80,26 +80,28 @@ comma_plain true = (refl, tt)
 comma_plain false = tt
 
 mutual
-  text_plain : (d : Data) → HasWholeNumbers d → IsPlain (compact_text d)
-  text_plain null h = (refl, (refl, (refl, (refl, tt))))
-  text_plain (boolean true) h = (refl, (refl, (refl, (refl, tt))))
-  text_plain (boolean false) h = (refl, (refl, (refl, (refl, (refl, tt)))))
-  text_plain (number n) h = number_plain n h
-  text_plain (string s) h = quoted_plain s
-  text_plain (array ds) h = (refl, items_plain false ds h)
-  text_plain (object ms) h = (refl, members_plain false ms h)
+  text_plain : (k : ℕ) (d : Data) → IsMild k d → IsPlain (compact_text d)
+  text_plain k null h = (refl, (refl, (refl, (refl, tt))))
+  text_plain k (boolean true) h = (refl, (refl, (refl, (refl, tt))))
+  text_plain k (boolean false) h = (refl, (refl, (refl, (refl, (refl, tt)))))
+  text_plain k (number n) h = number_plain n h
+  text_plain k (string s) h = quoted_plain s
+  text_plain zero (array ds) h = absurd h
+  text_plain (suc k) (array ds) h = (refl, items_plain k false ds h)
+  text_plain zero (object ms) h = absurd h
+  text_plain (suc k) (object ms) h = (refl, members_plain k false ms h)
 
-  items_plain : (later : Bool) (ds : Items) → ItemsHaveWholeNumbers ds → IsPlain (items_text later ds)
-  items_plain later no_items h = (refl, tt)
-  items_plain later (item d ds) h =
-      both_plain (comma_if later) _ (comma_plain later) (both_plain (compact_text d) _ (text_plain d h.0) (items_plain true ds h.1))
+  items_plain : (k : ℕ) (later : Bool) (ds : Items) → ItemsAreMild k ds → IsPlain (items_text later ds)
+  items_plain k later no_items h = (refl, tt)
+  items_plain k later (item d ds) h =
+      both_plain (comma_if later) _ (comma_plain later) (both_plain (compact_text d) _ (text_plain k d h.0) (items_plain k true ds h.1))
 
-  members_plain : (later : Bool) (ms : Members) → MembersHaveWholeNumbers ms → IsPlain (members_text later ms)
-  members_plain later no_members h = (refl, tt)
-  members_plain later (member k d ms) h =
+  members_plain : (k : ℕ) (later : Bool) (ms : Members) → MembersAreMild k ms → IsPlain (members_text later ms)
+  members_plain k later no_members h = (refl, tt)
+  members_plain k later (member key d ms) h =
       both_plain (comma_if later) _ (comma_plain later)
-      (both_plain (quoted k) _ (quoted_plain k)
-      (refl, both_plain (compact_text d) _ (text_plain d h.0) (members_plain true ms h.1)))
+      (both_plain (quoted key) _ (quoted_plain key)
+      (refl, both_plain (compact_text d) _ (text_plain k d h.0) (members_plain k true ms h.1)))
 
 -- ---- lines of values
 
@@ -110,11 +112,11 @@ nothing_behind (line ∷ (next ∷ lines)) = ap (λ l. line ∷ l) (nothing_behi
 
 texts_plain : (values : List Data) → Each (IsMild 127) values → ArePlain (map compact_text values)
 texts_plain [] h = tt
-texts_plain (d ∷ values) h = (text_plain d (mild 127 d h.0).0, texts_plain values h.1)
+texts_plain (d ∷ values) h = (text_plain 127 d h.0, texts_plain values h.1)
 
 each_read : (values : List Data) → Each (IsMild 127) values → AreRead (map compact_text values) values
 each_read [] h = tt
-each_read (d ∷ values) h = let m = mild 127 d h.0 in (compact_read d m.0 m.1, each_read values h.1)
+each_read (d ∷ values) h = (compact_read d h.0, each_read values h.1)
 
 lines_same : (values : List Data) → lines_text values ≡ text_of (map compact_text values)
 lines_same [] = refl

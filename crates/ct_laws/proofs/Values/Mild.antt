@@ -1,11 +1,11 @@
 -- Values whose numbers are whole and fit 64 bits, and that nest no deeper than so many arrays and objects.
-use Rattle.std.proofs.Common.{ℕ, zero, suc, ◌+◌, ◌≤◌, ◌<◌, ◌^◌, Bool, true, false, inl, inr, refl, subst, sym, List, [], ◌∷◌, ◌++◌, map}
-use Rattle.std.proofs.Common.{arith}
-use Rattle.std.specs.Prelude.{filter, flat_map, if◌then◌else◌, ⊤}
+use Rattle.std.proofs.Common.{ℕ, zero, suc, ◌+◌, ◌≤◌, ◌<◌, ◌^◌, inl, inr, refl, subst, sym, List, [], ◌∷◌, ◌++◌, map, arith}
+use Rattle.std.specs.Prelude.{flat_map, ⊤}
 use Rattle.ct_names.specs.Group.{counting}
 use Rattle.ct_names.specs.Membership.{IsIn}
-use Rattle.serde_json.specs.Data.{Num, unsigned, negative, float, Data, null, boolean, number, string, array, object}
-use Rattle.serde_json.specs.Data.{Items, no_items, item, Members, no_members, member, depth, items_depth, members_depth}
+use Rattle.ct_names.proofs.Groups.{counting-range}
+use Rattle.serde_json.specs.Data.{Num, unsigned, negative, float, Data, null, boolean, number, string, array, object, Items, no_items, item}
+use Rattle.serde_json.specs.Data.{Members, no_members, member}
 use Rattle.ct_json.specs.Fields.{Field, items_of, members_of}
 
 -- a number from 0 up to the largest of 64 bits
@@ -14,25 +14,7 @@ IsWhole (unsigned n) = n < 2 ^ 64
 IsWhole (negative z) = ⊥
 IsWhole (float x) = ⊥
 
--- each number of the value is one
-abbrev mutual
-  pub HasWholeNumbers : Data → Type 0
-  HasWholeNumbers null = ⊤
-  HasWholeNumbers (boolean b) = ⊤
-  HasWholeNumbers (number n) = IsWhole n
-  HasWholeNumbers (string s) = ⊤
-  HasWholeNumbers (array ds) = ItemsHaveWholeNumbers ds
-  HasWholeNumbers (object ms) = MembersHaveWholeNumbers ms
-
-  pub ItemsHaveWholeNumbers : Items → Type 0
-  ItemsHaveWholeNumbers no_items = ⊤
-  ItemsHaveWholeNumbers (item d ds) = HasWholeNumbers d × ItemsHaveWholeNumbers ds
-
-  pub MembersHaveWholeNumbers : Members → Type 0
-  MembersHaveWholeNumbers no_members = ⊤
-  MembersHaveWholeNumbers (member k d ms) = HasWholeNumbers d × MembersHaveWholeNumbers ms
-
--- the same, and at most k arrays and objects stand in one another
+-- each number of the value is one, and at most k arrays and objects stand in one another
 abbrev mutual
   pub IsMild : ℕ → Data → Type 0
   IsMild k null = ⊤
@@ -51,31 +33,6 @@ abbrev mutual
   pub MembersAreMild : ℕ → Members → Type 0
   MembersAreMild k no_members = ⊤
   MembersAreMild k (member key d ms) = IsMild k d × MembersAreMild k ms
-
-mutual
-  pub mild : (k : ℕ) (d : Data) → IsMild k d → HasWholeNumbers d × (depth d ≤ k)
-  mild k null h = (tt, omega arith)
-  mild k (boolean b) h = (tt, omega arith)
-  mild k (number n) h = (h, omega arith)
-  mild k (string s) h = (tt, omega arith)
-  mild zero (array ds) h = absurd h
-  mild (suc k) (array ds) h = let all = items_mild k ds h in (all.0, omega (arith, all.1))
-  mild zero (object ms) h = absurd h
-  mild (suc k) (object ms) h = let all = members_mild k ms h in (all.0, omega (arith, all.1))
-
-  items_mild : (k : ℕ) (ds : Items) → ItemsAreMild k ds → ItemsHaveWholeNumbers ds × (items_depth ds ≤ k)
-  items_mild k no_items h = (tt, omega arith)
-  items_mild k (item d ds) h =
-      let first = mild k d h.0 in
-      let rest = items_mild k ds h.1 in
-      ((first.0, rest.0), omega (arith, first.1, rest.1))
-
-  members_mild : (k : ℕ) (ms : Members) → MembersAreMild k ms → MembersHaveWholeNumbers ms × (members_depth ms ≤ k)
-  members_mild k no_members h = (tt, omega arith)
-  members_mild k (member key d ms) h =
-      let first = mild k d h.0 in
-      let rest = members_mild k ms h.1 in
-      ((first.0, rest.0), omega (arith, first.1, rest.1))
 
 -- ---- keys, and what stands for each of a list
 
@@ -111,16 +68,6 @@ pub each_any : {A : Type 0} (xs : List A) → Each (λ x. ⊤) xs
 each_any [] = tt
 each_any (x ∷ xs) = (tt, each_any xs)
 
--- the numbers from the first on
-pub each_counted : (first k most : ℕ) → first + k ≤ most + 1 → Each (λ n. (first ≤ n) × (n ≤ most)) (counting first k)
-each_counted first zero most h = tt
-each_counted first (suc k) most h =
-    ((omega arith, omega arith), each_later (counting (first + 1) k) (each_counted (first + 1) k most (omega arith)))
-  where
-    each_later : (xs : List ℕ) → Each (λ n. (first + 1 ≤ n) × (n ≤ most)) xs → Each (λ n. (first ≤ n) × (n ≤ most)) xs
-    each_later [] e = tt
-    each_later (x ∷ xs) e = ((omega (arith, e.0), e.0.1), each_later xs e.1)
-
 -- what holds of each holds of one of them
 pub each_one : {A : Type 0} (P : A → Type 0) (xs : List A) (x : A) → Each P xs → IsIn x xs → P x
 each_one P [] x h never = absurd never
@@ -131,13 +78,10 @@ pub each_from : {A : Type 0} (P : A → Type 0) (xs : List A) → ((x : A) → I
 each_from P [] h = tt
 each_from P (x ∷ xs) h = (h x (inl refl), each_from P xs (λ y i. h y (inr i)))
 
-pub each_filter : {A : Type 0} (P : A → Type 0) (test : A → Bool) (xs : List A) → Each P xs → Each P (filter test xs)
-each_filter P test [] h = tt
-each_filter P test (x ∷ xs) h = kept (test x) (each_filter P test xs h.1)
-  where
-    kept : (b : Bool) → Each P (filter test xs) → Each P (if b then x ∷ filter test xs else filter test xs)
-    kept true later = (h.0, later)
-    kept false later = later
+-- the numbers from the first on
+pub each_counted : (first k most : ℕ) → first + k ≤ most + 1 → Each (λ n. (first ≤ n) × (n ≤ most)) (counting first k)
+each_counted first k most h =
+    each_from _ (counting first k) (λ x i. let range = counting-range first k x i in (range.0, omega (arith, range.1)))
 
 pub each_map : {A B : Type 0} (P : A → Type 0) (Q : B → Type 0) (f : A → B) (xs : List A) → Each P xs → ((x : A) → P x → Q (f x)) →
     Each Q (map f xs)
@@ -147,7 +91,3 @@ each_map P Q f (x ∷ xs) h g = (g x h.0, each_map P Q f xs h.1 g)
 pub each_both : {A : Type 0} (P : A → Type 0) (xs ys : List A) → Each P xs → Each P ys → Each P (xs ++ ys)
 each_both P [] ys h k = k
 each_both P (x ∷ xs) ys h k = (h.0, each_both P xs ys h.1 k)
-
-pub each_flat : {A B : Type 0} (P : B → Type 0) (f : A → List B) (xs : List A) → ((x : A) → Each P (f x)) → Each P (flat_map f xs)
-each_flat P f [] h = tt
-each_flat P f (x ∷ xs) h = each_both P (f x) (flat_map f xs) (h x) (each_flat P f xs h)

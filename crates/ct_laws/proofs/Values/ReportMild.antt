@@ -1,12 +1,12 @@
 -- The value of a report is mild.
-use Rattle.std.proofs.Common.{◌≡◌, ℕ, zero, suc, ◌≤◌, ◌<◌, ◌^◌, List, [], ◌∷◌, ◌++◌, codes, Option, Some, None, length, take, replicate}
-use Rattle.std.proofs.Common.{refl, subst, inl, inr, arith}
+use Rattle.std.proofs.Common.{◌≡◌, ℕ, zero, suc, ◌≤◌, ◌<◌, ◌^◌, List, [], ◌∷◌, ◌++◌, Option, Some, None, length, take, replicate, refl}
+use Rattle.std.proofs.Common.{subst, inl, inr, arith}
 use Rattle.std.proofs.lemmas.List.{take_all}
 use Rattle.std.specs.Option.{option_map_or}
 use Rattle.std.specs.Prelude.{⊤, slice_index, slice_set, unwrap_or}
 use Rattle.ct_names.specs.declared.command.Command.{Command}
 use Rattle.ct_names.specs.declared.command.Command.TheVariants.{Set, Add, Copy}
-use Rattle.ct_names.specs.declared.limit.TheConstants.{MAX_BOUND, MAX_CELLS, MAX_INSTANCES, MAX_MEMBERS, REGISTERS}
+use Rattle.ct_names.specs.declared.limit.TheConstants.{MAX_INSTANCES, REGISTERS}
 use Rattle.ct_names.specs.Group.{IsMember, counting, members}
 use Rattle.ct_names.specs.Membership.{IsIn}
 use Rattle.ct_names.specs.Message.{Message}
@@ -15,7 +15,7 @@ use Rattle.ct_model.specs.AtValue.{Wire}
 use Rattle.ct_model.specs.declared.step.Step.{Step}
 use Rattle.ct_model.specs.declared.wire.Wire.TheVariants.{Dec}
 use Rattle.ct_model.specs.Lawful.{IsLawful}
-use Rattle.ct_model.specs.Received.{decided, received_by}
+use Rattle.ct_model.specs.Received.{decided}
 use Rattle.ct_model.specs.Rehearsal.{Rehearsal, state_of}
 use Rattle.ct_model.specs.Safe.{delivered_by}
 use Rattle.ct_model.specs.State.{member}
@@ -29,9 +29,9 @@ use Rattle.ct_table.specs.Table.{applied, applied_all, table, zeros}
 use Rattle.ct_world.specs.Decided.{last_decided}
 use Rattle.ct_world.specs.Replay.{AllowsFirst, first_steps}
 use Rattle.ct_json.specs.Fields.{items_of}
-use Rattle.ct_json.specs.Json.{counts_fields, decision_value, decision_values, decisions_fields, group_fields, history_fields}
-use Rattle.ct_json.specs.Json.{member_value, members_fields, message_value, messages_at, messages_value, register_value, report_value}
-use Rattle.ct_json.specs.Json.{standing_fields, table_fields}
+use Rattle.ct_json.specs.Json.{counts_fields, decision_value, decision_values, decisions_fields, group_fields, history_fields, member_value}
+use Rattle.ct_json.specs.Json.{members_fields, message_value, messages_at, messages_value, register_value, report_value, standing_fields}
+use Rattle.ct_json.specs.Json.{table_fields}
 use Rattle.ct_laws.specs.Fitting.{IsFitting}
 use Rattle.ct_laws.proofs.Values.Bounded.{IsSmall, SmallWire, bounded_first}
 use Rattle.ct_laws.proofs.Values.Mild.{AreMild, Each, IsMild, ItemsAreMild, both_mild, each_any, each_counted, mild_by, mild_flat}
@@ -39,13 +39,9 @@ use Rattle.ct_laws.proofs.Values.Mild.{AreMild, Each, IsMild, ItemsAreMild, both
 -- ---- records whose numbers are within the limits
 
 pub record IsSized (w : Rehearsal) : Type 0 where
+  pub fitting : IsFitting w
   pub law : IsLawful w
   pub small : IsSmall w
-  pub fit : AllFit w.steps
-  pub some_members : 1 ≤ w.setting.members
-  pub few_members : w.setting.members ≤ MAX_MEMBERS
-  pub few_cells : w.cells ≤ MAX_CELLS
-  pub few_bound : w.setting.bound ≤ MAX_BOUND
 
 fit_first : (steps : List Step) (k : ℕ) → AllFit steps → AllFit (take k steps)
 fit_first steps zero h = tt
@@ -67,15 +63,7 @@ pub sized_first : (w : Rehearsal) (count k : ℕ) → IsFitting w → AllowsFirs
     → IsSized (first_steps w.setting w.cells w.steps k)
 sized_first w count k h allows low high =
     let b = bounded_first w.setting w.cells w.steps count k h.some_members h.fit allows low high in
-    record {
-      law = b.law;
-      small = b.small;
-      fit = fit_first w.steps k h.fit;
-      some_members = h.some_members;
-      few_members = h.few_members;
-      few_cells = h.few_cells;
-      few_bound = h.few_bound;
-    }
+    record { fitting = fitting_first w k h; law = b.law; small = b.small }
 
 -- and all of them
 pub sized : (w : Rehearsal) → IsFitting w → IsAllowed w → IsSized w
@@ -88,6 +76,10 @@ sized w h allows =
 pub messages_mild : (k : ℕ) (messages : List Message) → IsMild (suc k) (messages_value messages)
 unfolding messages_value
 messages_mild k messages = mild_by k (λ m. ⊤) message_value messages (each_any messages) (λ m h. tt)
+
+pub messages_at_mild : (k : ℕ) (key : List ℕ) (messages : List Message) → AreMild (suc k) (messages_at key messages)
+unfolding messages_at
+messages_at_mild k key messages = (messages_mild k messages, tt)
 
 decided_mild : (k at : ℕ) (o : Option Value) → ((v : Value) → o ≡ Some v → at ≤ MAX_INSTANCES) →
     ItemsAreMild (suc (suc k)) (items_of (option_map_or (λ v. decision_value at v ∷ []) o []))
@@ -153,34 +145,29 @@ module _ (w : Rehearsal) (h : IsSized w) where
   got_small p is x i = h.small.wires x (facts.got p is x i)
 
   pub history_mild : (k p : ℕ) → IsMember w.setting.members p → AreMild (suc (suc (suc k))) (history_fields w p)
-  unfolding history_fields messages_at
+  unfolding history_fields
   history_mild k p is =
       let safe = safe-run w.setting w.steps (state_of w) h.law.runs in
       let fits : (m : Message) → IsIn m (delivered_by (state_of w) p) → CommandFits m.command =
       λ m i. h.small.submitted m (safe.submitted p m is i) in
-      let got = (member (state_of w) p).got in
-      let delivered = delivered_by (state_of w) p in
-      let last = messages_at (codes "delivered") delivered ++ table_fields (table delivered) in (
-        messages_mild (suc (suc k)) (received_by (state_of w) p),
-        both_mild (suc (suc (suc k))) (decisions_fields got) last
-            (decisions_mild k got (λ at r v i. (got_small p is (Dec at r v) i).0))
-            (messages_mild (suc (suc k)) delivered, table_mild (suc (suc k)) delivered fits),
-      )
+      let low : (at r : ℕ) (v : Value) → IsIn (Dec at r v) (member (state_of w) p).got → at ≤ MAX_INSTANCES =
+      λ at r v i. (got_small p is (Dec at r v) i).0 in
+      search (both_mild, messages_at_mild, decisions_mild, table_mild, fits, low)
 
   pub standing_mild : (k p : ℕ) → IsMember w.setting.members p → AreMild k (standing_fields w p)
   unfolding standing_fields
   standing_mild k p is =
       let low : p ≤ w.setting.members = is.1 in
-      let few = h.few_members in
+      let few = h.fitting.few_members in
       let last = h.law.within.few_instances p in
       (omega arith, (tt, (omega arith, (tt, tt))))
 
   pub group_mild : (k : ℕ) → AreMild k (group_fields w)
   unfolding group_fields
   group_mild k =
-      let few = h.few_members in
-      let cells = h.few_cells in
-      let bound = h.few_bound in
+      let few = h.fitting.few_members in
+      let cells = h.fitting.few_cells in
+      let bound = h.fitting.few_bound in
       (omega arith, (omega arith, (omega arith, (omega arith, tt))))
 
   pub counts_mild : (k : ℕ) → AreMild k (counts_fields w)
@@ -189,13 +176,12 @@ module _ (w : Rehearsal) (h : IsSized w) where
       let steps = h.law.within.few_steps in
       let sent = h.law.within.few_envelopes in
       let posted = h.law.within.few_batches in
-      let cells = h.few_cells in
+      let cells = h.fitting.few_cells in
       (omega arith, (omega arith, (omega arith, tt)))
 
   member_mild : (k p : ℕ) → IsMember w.setting.members p → IsMild (suc (suc (suc (suc k)))) (member_value w p)
   unfolding member_value
-  member_mild k p is =
-      both_mild (suc (suc (suc k))) (standing_fields w p) (history_fields w p) (standing_mild (suc (suc (suc k))) p is) (history_mild k p is)
+  member_mild k p is = search (both_mild, standing_mild, history_mild)
 
   pub each_member : Each (IsMember w.setting.members) (members w.setting.members)
   unfolding members

@@ -1,8 +1,8 @@
 -- The values of a state are mild.
 use Rattle.std.proofs.Common.{◌≡◌, ℕ, zero, suc, ◌-◌, ◌≤◌, ◌<◌, ◌^◌, Bool, true, false, List, [], ◌∷◌, ◌++◌, codes, Option, Some, None}
-use Rattle.std.proofs.Common.{length, map, replicate, refl, sym, ◌∙◌, subst, inl, inr, arith, eq-eqb}
+use Rattle.std.proofs.Common.{length, replicate, refl, sym, ◌∙◌, subst, inl, inr, arith, eq-eqb}
 use Rattle.std.specs.Option.{option_map_or, option_to_list}
-use Rattle.std.specs.Prelude.{◌==◌, find, if◌then◌else◌, is_none, option_and_then, option_map, slice_get, unwrap_or}
+use Rattle.std.specs.Prelude.{◌==◌, find, if◌then◌else◌, is_none, option_and_then, option_map, slice_get}
 use Rattle.ct_names.specs.declared.command.Command.{Command}
 use Rattle.ct_names.specs.declared.limit.TheConstants.{MAX_ENVELOPES, MAX_INSTANCES, MAX_ROUNDS}
 use Rattle.ct_names.specs.declared.refusal.Refusal.{Refusal}
@@ -26,7 +26,7 @@ use Rattle.ct_model.specs.Senders.{senders, senders_from}
 use Rattle.ct_model.specs.Setting.{Setting}
 use Rattle.ct_model.specs.State.{State, at_serial, first_state, member}
 use Rattle.ct_model.specs.StepText as steps
-use Rattle.ct_model.specs.StepText.{Rest, amount, command_entry, step_entry}
+use Rattle.ct_model.specs.StepText.{Rest, command_entry, step_entry}
 use Rattle.ct_model.specs.Waiting.{has_serial, serials_to}
 use Rattle.ct_model.proofs.Basics.Groups.{coordinator_is, member_is}
 use Rattle.ct_model.proofs.Basics.Options.{some-none, some-same}
@@ -41,7 +41,7 @@ use Rattle.ct_world.specs.Standing.{estimate_by, heard_by}
 use Rattle.ct_world.specs.World.{if_member, member_of}
 use Rattle.ct_text.specs.Standing.{coordinator_of, round_of}
 use Rattle.ct_show.specs.State.{first_choices, first_receipt, own_steps, told_refusal}
-use Rattle.ct_json.specs.Fields.{Field, items_of}
+use Rattle.ct_json.specs.Fields.{items_of}
 use Rattle.ct_json.specs.Json.{counts_fields, group_fields, history_fields, messages_at, standing_fields}
 use Rattle.ct_json.specs.JsonEnvelopes.{carried_fields, envelope_by, estimate_field, estimate_fields, letter_fields, sender_fields}
 use Rattle.ct_json.specs.JsonEnvelopes.{vote_fields, wire_fields}
@@ -173,23 +173,20 @@ next_fit (Some s) receipt h i = (h s refl, tt)
 
 -- ---- sets of members
 
-few_each : Each (λ q. q ≤ 16) everyone
-unfolding members
-few_each = each_map (λ q. (1 ≤ q) × (q ≤ 16)) (λ q. q ≤ 16) (λ q. q) everyone (each_counted 1 16 16 (omega arith)) (λ q is. is.1)
-
 inside_mild : (k q : ℕ) (b : Bool) → q ≤ 16 → ItemsAreMild k (items_of (if b then num q ∷ [] else []))
 inside_mild k q true low = (omega arith, tt)
 inside_mild k q false low = tt
 
 set_mild : (k : ℕ) (key : List ℕ) (o : Option (List ℕ)) → AreMild (suc k) (set_field key o)
-unfolding set_value
+unfolding set_value members
 set_mild k key None = tt
 set_mild k key (Some set) =
-    (mild_flat k (λ q. q ≤ 16) (set_values set) everyone few_each (λ q low. inside_mild k q (has_member set q) low), tt)
+    let each = each_counted 1 16 16 (omega arith) in
+    (mild_flat k (IsMember 16) (set_values set) everyone each (λ q is. inside_mild k q (has_member set q) is.1), tt)
 
 pub replies_mild : (k : ℕ) (w : Rehearsal) (p : ℕ) → AreMild (suc k) (replies_fields w p)
 unfolding replies_fields
-replies_mild k w p = both_mild (suc k) (set_field (codes "acked") _) (set_field (codes "replied") _) (set_mild k _ _) (set_mild k _ _)
+replies_mild k w p = search (both_mild, set_mild)
 
 led_mild : (k p : ℕ) (b : Bool) → p ≤ 16 → AreMild k (if b then [] else ((codes "coordinator", num p) ∷ []))
 led_mild k p true low = tt
@@ -208,7 +205,7 @@ module _ (w : Rehearsal) (h : IsSized w) where
   n = w.setting.members
 
   few : n ≤ 16
-  few = h.few_members
+  few = h.fitting.few_members
 
   -- an estimate that a member heard for its round
   estimate_small : (p : ℕ) → IsMember w.setting.members p → (c : Standing) (e : Heard Value) →
@@ -270,7 +267,8 @@ module _ (w : Rehearsal) (h : IsSized w) where
   unfolding round_of
   round_low p = go (if_member w p (option_map (λ c. (c.round, c.phase)) (member_of w p).current)) (place_low p)
     where
-      go : (o : Option (ℕ × Phase)) → ((r : ℕ × Phase) → o ≡ Some r → r.0 ≤ MAX_ROUNDS) → option_map_or (λ (r : ℕ × Phase). r.0) o 0 ≤ MAX_ROUNDS
+      go : (o : Option (ℕ × Phase)) → ((r : ℕ × Phase) → o ≡ Some r → r.0 ≤ MAX_ROUNDS) →
+          option_map_or (λ (r : ℕ × Phase). r.0) o 0 ≤ MAX_ROUNDS
       go None low = omega arith
       go (Some r) low = low r refl
 
@@ -278,7 +276,7 @@ module _ (w : Rehearsal) (h : IsSized w) where
   unfolding coordinator_of
   coordinator_low p =
       let is : coordinator w.setting.members (round_of w p) ≤ w.setting.members =
-      (coordinator_is w.setting.members (round_of w p) h.some_members).1 in
+      (coordinator_is w.setting.members (round_of w p) h.fitting.some_members).1 in
       omega (arith, few)
 
   votes_mild : (k p : ℕ) → AreMild (suc (suc (suc k))) (votes_fields w p)
@@ -286,7 +284,8 @@ module _ (w : Rehearsal) (h : IsSized w) where
   votes_mild k p =
       let deep = suc (suc (suc k)) in
       let heard = mild_flat (suc (suc k)) (IsMember n) (heard_values w p) (members n) (each_member w h)
-      (λ q is. let low : q ≤ n = is.1 in heard_mild k q (if_member w p (heard_by (member_of w p) q)) (omega (arith, few)) (heard_low p q)) in
+      (λ q is. let low : q ≤ n = is.1 in
+      heard_mild k q (if_member w p (heard_by (member_of w p) q)) (omega (arith, few)) (heard_low p q)) in
       both_mild deep (estimate_field (if_member w p (estimate_by (member_of w p)))) (heard_fields w p ++ replies_fields w p)
       (estimate_field_mild (suc k) (if_member w p (estimate_by (member_of w p))) (own_low p)) (heard, replies_mild (suc (suc k)) w p)
 
@@ -417,10 +416,7 @@ module _ (w : Rehearsal) (h : IsSized w) where
 
     chances_mild : (k : ℕ) → AreMild (suc (suc (suc (suc k)))) (chances_fields w (senders w.setting w.steps) p)
     unfolding chances_fields
-    chances_mild k =
-        let deep = suc (suc (suc (suc k))) in
-        both_mild deep (waiting_fields w (senders w.setting w.steps) (line_of w p)) (steps_fields w p ++ next_fields w p)
-        (waiting_mild (suc k) p) (both_mild deep (steps_fields w p) (next_fields w p) (steps_mild k) (next_mild (suc k)))
+    chances_mild k = search (both_mild, waiting_mild, steps_mild, next_mild)
 
     member_mild : IsMild 127 (member_value w (senders w.setting w.steps) p)
     unfolding member_value

@@ -1,9 +1,10 @@
--- The values of steps are mild.
-use Rattle.std.proofs.Common.{◌≡◌, ℕ, zero, suc, ◌+◌, ◌-◌, ◌≤◌, ◌<◌, ◌^◌, Bool, true, false, List, [], ◌∷◌, ◌++◌, codes, Option, Some}
-use Rattle.std.proofs.Common.{None, length, refl, sym, subst, arith}
+-- The lines of steps are those of their values, and these are mild.
+use Rattle.std.proofs.Common.{◌≡◌, ℕ, zero, suc, ◌+◌, ◌-◌, ◌≤◌, ◌<◌, ◌^◌, Bool, true, false, List, [], ◌∷◌, ◌++◌, codes, Option, Some, None}
+use Rattle.std.proofs.Common.{length, refl, sym, subst, arith, ap, ap₂, ◌∙◌, append-nil}
 use Rattle.std.proofs.lemmas.List.{length-take-le}
 use Rattle.std.specs.Option.{option_map_or}
-use Rattle.std.specs.Prelude.{◌==◌, if◌then◌else◌, option_map, slice_get}
+use Rattle.std.specs.Prelude.{if◌then◌else◌, option_map, slice_get, flat_map}
+use Rattle.std.proofs.lemmas.Grind.{flat_map-append}
 use Rattle.serde_json.specs.Data.{Data}
 use Rattle.ct_names.specs.declared.limit.TheConstants.{MAX_ENVELOPES, MAX_INSTANCES, MAX_ROUNDS}
 use Rattle.ct_names.specs.declared.refusal.Refusal.{Refusal}
@@ -15,8 +16,8 @@ use Rattle.ct_names.proofs.Groups.{counting-range}
 use Rattle.ct_model.specs.Actor.{actor}
 use Rattle.ct_model.specs.AtValue.{Envelope, Wire}
 use Rattle.ct_model.specs.declared.step.Step.{Step}
-use Rattle.ct_model.specs.declared.step.Step.TheVariants.{Submit, Receive, Begin, Enter, Choose, Adopt, Suspect, Conclude, Deliver}
-use Rattle.ct_model.specs.declared.step.Step.TheVariants.{Follow, Postpone, Lose, Repeat}
+use Rattle.ct_model.specs.declared.step.Step.TheVariants.{Submit, Receive, Begin, Enter, Choose, Adopt, Suspect, Conclude, Deliver, Follow}
+use Rattle.ct_model.specs.declared.step.Step.TheVariants.{Postpone, Lose, Repeat}
 use Rattle.ct_model.specs.declared.wire.Wire.TheVariants.{Data as Message}
 use Rattle.ct_model.specs.Mapped.{without_value, wire_map}
 use Rattle.ct_model.specs.Rehearsal.{Rehearsal, extended, state_of}
@@ -30,14 +31,17 @@ use Rattle.ct_world.specs.World.{if_member, member_of}
 use Rattle.ct_text.specs.Standing.{instance_of}
 use Rattle.ct_show.specs.Facts.{last_taking, returns, taking_or, takes}
 use Rattle.ct_views.specs.declared.selection.Selection.{Selection}
-use Rattle.ct_views.specs.Selected.{is_selected}
+use Rattle.ct_views.specs.Selected.{is_selected, first_lines, line_after}
+use Rattle.ct_views.specs.Answer.{refused_line, refused_shown}
+use Rattle.ct_views.specs.declared.form.Form.TheVariants.{Json}
+use Rattle.ct_views.specs.declared.view.View.TheVariants.{Steps}
 use Rattle.ct_json.specs.Json.{messages_at}
 use Rattle.ct_json.specs.JsonEnvelopes.{envelope_value, estimate_field, sent_fields}
-use Rattle.ct_json.specs.JsonParts.{replies_fields}
 use Rattle.ct_json.specs.JsonSteps.{argument_fields, batch, concluded_fields, decided_fields, delivered_fields, estimated_fields}
-use Rattle.ct_json.specs.JsonSteps.{facts_fields, head_fields, held, instance_fields, leaving_fields, left_fields, letter_facts, member_facts, message_fields}
-use Rattle.ct_json.specs.JsonSteps.{message_in, missing_fields, outcome_fields, proposal_fields, refusal_fields, refused_value, round_fields, valued_fields}
-use Rattle.ct_json.specs.JsonSteps.{value_in}
+use Rattle.ct_json.specs.JsonSteps.{facts_fields, head_fields, held, instance_fields, leaving_fields, left_fields, letter_facts}
+use Rattle.ct_json.specs.JsonSteps.{member_facts, message_fields, message_in, missing_fields, outcome_fields, proposal_fields}
+use Rattle.ct_json.specs.JsonSteps.{refusal_fields, refused_value, round_fields, valued_fields, value_in, refused_json, step_json}
+use Rattle.ct_json.specs.Fields.{line_text, lines_text}
 use Rattle.ct_laws.specs.Fitting.{IsFitting}
 use Rattle.ct_laws.specs.JsonSteps.{asked_values, refused_values, shown_values, step_value, steps_values}
 use Rattle.ct_laws.proofs.Values.Bounded.{HasNext, has_next}
@@ -45,7 +49,62 @@ use Rattle.ct_laws.proofs.Values.Mild.{AreMild, Each, IsMild, both_mild, each_bo
 use Rattle.ct_laws.proofs.Values.ReportMild.{IsSized, messages_mild, sized_first}
 use Rattle.ct_laws.proofs.Values.StateMild.{command_mild, coordinator_low, envelope_mild, estimate_field_mild, heard_low, own_low}
 use Rattle.ct_laws.proofs.Values.StateMild.{part_mild, replies_mild, round_low, step_mild}
-use Rattle.ct_laws.proofs.Values.StepsRead.{counted_places, values_at}
+
+-- ---- lines
+
+counting_more : (first k : ℕ) → counting first (suc k) ≡ counting first k ++ (first + k) ∷ []
+counting_more first zero = ap (λ n. n ∷ []) (omega arith)
+counting_more first (suc k) =
+    let same : first + 1 + k ≡ first + suc k = omega arith in
+    ap (λ ns. first ∷ ns) (counting_more (first + 1) k) ∙ ap (λ n. first ∷ (counting (first + 1) k ++ n ∷ [])) same
+
+-- one more of the numbers from 0 on
+counted_places : {A : Type 0} (f : ℕ → List A) (k : ℕ) → flat_map f (counting 0 (suc k)) ≡ flat_map f (counting 0 k) ++ f k
+counted_places f k =
+    let last : 0 + k ≡ k = omega arith in
+    ap (flat_map f) (counting_more 0 k ∙ ap (λ n. counting 0 k ++ n ∷ []) last) ∙ flat_map-append f (counting 0 k) (k ∷ [])
+    ∙ ap (λ t. flat_map f (counting 0 k) ++ t) (append-nil (f k))
+
+line_alone : (d : Data) → line_text d ≡ lines_text (d ∷ [])
+line_alone d = sym (append-nil (line_text d))
+
+asked_lines : (b : Bool) (d : Data) → (if b then line_text d else []) ≡ lines_text (if b then d ∷ [] else [])
+asked_lines true d = line_alone d
+asked_lines false d = refl
+
+asked_same : (selection : Selection) (w : Rehearsal) (place : ℕ) (o : Option Step) →
+    line_after selection Json w place o ≡ lines_text (asked_values selection w place o)
+unfolding step_json
+asked_same selection w place None = refl
+asked_same selection w place (Some step) = asked_lines (is_selected selection (place + 1) (actor step)) (step_value w (place + 1) step)
+
+-- what is shown at a place
+abbrev values_at : Selection → Rehearsal → ℕ → List Data
+values_at selection w place = asked_values selection (first_steps w.setting w.cells w.steps place) place (slice_get w.steps place)
+
+pub steps_same : (selection : Selection) (w : Rehearsal) (count : ℕ) →
+    first_lines selection Json w.setting w.cells w.steps count ≡ lines_text (steps_values selection w count)
+unfolding steps_values
+steps_same selection w zero = refl
+steps_same selection w (suc k) =
+    let f = values_at selection w in
+    ap₂ (λ x y. x ++ y) (steps_same selection w k)
+    (asked_same selection (first_steps w.setting w.cells w.steps k) k (slice_get w.steps k))
+    ∙ sym (ap lines_text (counted_places f k) ∙ flat_map-append line_text (flat_map f (counting 0 k)) (f k))
+
+refused_lines : (w : Rehearsal) (number : ℕ) (o : Option Step) (refusal : Refusal) →
+    refused_line Json w number o refusal ≡ lines_text (option_map_or (λ step. refused_value w number step refusal ∷ []) o [])
+unfolding refused_json
+refused_lines w number None refusal = refl
+refused_lines w number (Some step) refusal = line_alone (refused_value w number step refusal)
+
+pub shown_same : (selection : Selection) (w : Rehearsal) (number : ℕ) (refusal : Refusal) →
+    refused_shown (Steps selection Json) w number refusal ≡ lines_text (shown_values selection w number refusal)
+unfolding refused_values
+shown_same selection w number refusal =
+    ap₂ (λ x y. x ++ y) (steps_same selection w (number - 1))
+    (refused_lines (first_steps w.setting w.cells w.steps (number - 1)) number (slice_get w.steps (number - 1)) refusal)
+    ∙ sym (flat_map-append line_text (steps_values selection w (number - 1)) (refused_values w number refusal))
 
 -- ---- steps
 
@@ -131,10 +190,7 @@ module _ (w : Rehearsal) (h : IsSized w) where
 
   concluded_mild : (k before p : ℕ) → AreMild (suc k) (concluded_fields w before p)
   unfolding concluded_fields decided_fields
-  concluded_mild k before p =
-      both_mild (suc k) (round_fields w p) (replies_fields w p ++ decided_fields w before p) (round_mild (suc k) p)
-      (both_mild (suc k) (replies_fields w p) (decided_fields w before p) (replies_mild k w p)
-      (decided_in k p (length (state_of w).sent == before)))
+  concluded_mild k before p = search (both_mild, round_mild, replies_mild, decided_in)
 
   proposal_mild : (k p : ℕ) → AreMild (suc k) (proposal_fields w p)
   unfolding proposal_fields
@@ -206,7 +262,8 @@ module _ (w : Rehearsal) (h : IsSized w) where
       ((omega arith, (step_mild k t.1 is.fits, tt)), tt)
 
   leaving_mild : (k s : ℕ) (refusal : Refusal) → AreMild (suc (suc (suc k))) (leaving_fields w s refusal)
-  leaving_mild k s NotWaiting = left_mild k (last_taking w.steps s (length w.steps)) (λ t e. taking_is w.steps s (length w.steps) t h.fit e)
+  leaving_mild k s NotWaiting =
+      left_mild k (last_taking w.steps s (length w.steps)) (λ t. taking_is w.steps s (length w.steps) t h.fitting.fit)
   leaving_mild k s _ = tt
 
   letter_facts_mild : (k s : ℕ) (o : Option Envelope) (refusal : Refusal) →
@@ -262,7 +319,8 @@ module _ (selection : Selection) (w : Rehearsal) (h : IsFitting w) (count : ℕ)
   first_mild zero low = tt
   first_mild (suc k) low =
       subst (λ l. Each (IsMild 127) l) (sym (counted_places (values_at selection w) k))
-      (each_both (IsMild 127) (steps_values selection w k) (values_at selection w k) (first_mild k (omega arith)) (place_mild k (omega arith)))
+      (each_both (IsMild 127) (steps_values selection w k) (values_at selection w k) (first_mild k (omega arith))
+      (place_mild k (omega arith)))
 
 pub steps_mild : (selection : Selection) (w : Rehearsal) → IsFitting w → IsAllowed w →
     Each (IsMild 127) (steps_values selection w (length w.steps))

@@ -3,8 +3,7 @@ use Rattle.ct_laws.specs.JsonSteps.{shown_values, steps_values}
 use Rattle.ct_laws.specs.JsonValues.{AreRead}
 use Rattle.ct_laws.specs.Sessions.{lines_heard}
 use Rattle.ct_laws.proofs.Values.Feedless.{lines_read}
-use Rattle.ct_laws.proofs.Values.StepsMild.{shown_mild, steps_mild}
-use Rattle.ct_laws.proofs.Values.StepsRead.{shown_same, steps_same}
+use Rattle.ct_laws.proofs.Values.StepsMild.{shown_mild, shown_same, steps_mild, steps_same}
 use Rattle.ct_laws.proofs.reading_json.law_steps_json.Goals as goal
 
 pub returns-clause-taken : goal.returns-clause-taken
