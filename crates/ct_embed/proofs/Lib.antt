@@ -1,7 +1,6 @@
 pub mod Apart
+pub mod AtHeap
 pub mod Copying
 pub mod Hearing
 pub mod Rooms
-pub mod SessionAtHeap
 pub mod Unopened
-pub mod WorldAtHeap

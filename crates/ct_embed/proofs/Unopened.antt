@@ -1,5 +1,5 @@
 -- Why no world is opened of a record: what reading and replaying tell.
-use Rattle.std.proofs.Common.{◌≡◌, ℕ, List, inl, inr, refl, sym, subst}
+use Rattle.std.proofs.Common.{◌≡◌, ℕ, List, inl, inr, refl}
 use Rattle.std.specs.Prelude.{Result, Ok, Err}
 use Rattle.ct_names.specs.declared.refusal.Refusal.{Refusal}
 use Rattle.ct_model.specs.declared.step.Step.{Step}
@@ -12,7 +12,7 @@ use Rattle.ct_embed.specs.Records.{IsUnopened, not_opened, unread}
 use Rattle.ct_embed.specs.RefusalNumbers.{refusal_number}
 
 told : (read : Result Rehearsal ReadFault) (fault : ReadFault) → read ≡ Err fault → IsUnopened read (unread fault)
-told read fault e = subst (λ r. IsUnopened r (unread fault)) (sym e) (inr refl)
+told read fault e = rw e (inr refl)
 
 pub unread_is : (read : Result Rehearsal ReadFault) (fault : ReadFault) → Fails fault read → IsUnopened read (unread fault)
 unread_is read TooLong e = told read TooLong e
@@ -23,9 +23,8 @@ unread_is read OutOfMemory e = inl refl
 
 pub stopped_is : (read : Result Rehearsal ReadFault) (w : Rehearsal) (at : ℕ) (refusal : Refusal) → read ≡ Ok w →
     IsFaultOf w.setting w.cells w.steps at refusal → IsUnopened read (not_opened (refusal_number refusal) at)
-stopped_is read w at refusal e fault = subst (λ r. IsUnopened r (not_opened (refusal_number refusal) at)) (sym e)
-    (inr (record { refusal = refusal; is = refl; fault = fault }))
+stopped_is read w at refusal e fault = rw e (inr (record { refusal = refusal; is = refl; fault = fault }))
 
 pub same_fault : (w : Rehearsal) (steps : List Step) (at : ℕ) (refusal : Refusal) → steps ≡ w.steps →
     IsFaultOf w.setting w.cells steps at refusal → IsFaultOf w.setting w.cells w.steps at refusal
-same_fault w steps at refusal e fault = subst (λ l. IsFaultOf w.setting w.cells l at refusal) e fault
+same_fault w steps at refusal e fault = rw e at fault

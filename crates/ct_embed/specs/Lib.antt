@@ -3,8 +3,7 @@ pub mod Held
 pub mod LetterCodes
 pub mod MessageCodes
 pub mod Opening
-pub mod OwnedSession
-pub mod OwnedWorld
+pub mod Owned
 pub mod Owning
 pub mod Records
 pub mod RefusalNumbers

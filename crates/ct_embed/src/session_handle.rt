@@ -21,9 +21,10 @@ pub struct SessionHandle {
 impl Model for SessionHandle {
     ghost use Rattle.std.specs.Prelude.{Bool};
     ghost use Rattle.ct_embed.specs.Telling.{Talk};
-    ghost use Rattle.ct_embed.specs.OwnedSession.{owned};
+    ghost use Rattle.ct_embed.specs.Owned.{owned};
+    ghost use Rattle.ct_embed.specs.contracts.own_session.OwnSession.{the_row};
 
-    ghost also_owns = { λ h. owned h.held h.alloc h.at h.value };
+    ghost also_owns = { λ h. owned the_row h.held h.alloc h.at h.value };
 }
 
 impl SessionHandle {

@@ -21,9 +21,10 @@ pub struct WorldHandle {
 impl Model for WorldHandle {
     ghost use Rattle.std.specs.Prelude.{Bool};
     ghost use Rattle.ct_model.specs.Rehearsal.{Rehearsal};
-    ghost use Rattle.ct_embed.specs.OwnedWorld.{owned};
+    ghost use Rattle.ct_embed.specs.Owned.{owned};
+    ghost use Rattle.ct_embed.specs.contracts.own_world.OwnWorld.{the_row};
 
-    ghost also_owns = { λ h. owned h.held h.alloc h.at h.value };
+    ghost also_owns = { λ h. owned the_row h.held h.alloc h.at h.value };
 }
 
 impl WorldHandle {

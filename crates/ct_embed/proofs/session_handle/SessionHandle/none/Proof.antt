@@ -19,7 +19,7 @@ use denote.Triple.Walked.{says, Stays, stay_dropped, walk_of, ends_at}
 use Rattle.core.proofs.alloc.Calls.{Goes-blank, handle_tells}
 use Rattle.std.proofs.raw_atomic.Walks.{proved_at}
 use Rattle.std.specs.contracts.alloc.Global as heap
-use Rattle.ct_embed.proofs.SessionAtHeap.{at_heap, empty_word, empty_typed, empty_in}
+use Rattle.ct_embed.proofs.AtHeap.{the_heap, empty_word, empty_typed, empty_in}
 use Rattle.ct_embed.specs.Telling.{hush}
 use Rattle.ct_embed.specs.contracts.session_handle.SessionHandle.none as f
 use Rattle.ct_embed.proofs.session_handle.SessionHandle.none.Statement.{statement}
@@ -27,13 +27,13 @@ use Rattle.ct_embed.proofs.session_handle.SessionHandle.none.Code as code
 
 pub none_spec : {M : Type 1} → statement M
 none_spec 𝓤 𝓛 𝓜 𝓡 wired =
-    let 𝓣 = tables 𝓤 𝓛.H 𝓜 𝓡 𝓡.env in let c = f.clauses 𝓛 𝓜.mem 𝓡.returns in let fn = code.function in let E = at_heap in
+    let 𝓣 = tables 𝓤 𝓛.H 𝓜 𝓡 𝓡.env in let c = f.clauses 𝓛 𝓜.mem 𝓡.returns in let fn = code.function in
     let stayed : Stays f.ended.signature.params f.ended.kept = (stay_dropped (plain (λ _. heap.the_row)) yes, tt) in
     proved_at 𝓛 f.ended stayed c 𝓜 𝓡 (Goes-blank 𝓛 0 (plain (λ _. heap.the_row)) yes (λ κs x w. tt), tt)
     f.Key.name fn (code.unfolded 𝓤 𝓛.H 𝓜 𝓡 wired) (λ z are.
     let a = z.0.3.0 in let Post : Val → SProp 𝓤 = (walk_of 𝓛 f.ended stayed c).post z in
     qed 𝓛 ((‵ ftrue ⊛ ‵ (fsep (heap.the_row.own_val a z.0.4.0) ftrue)) ∷ raw ((c z.0.0 z.0.3).requires z.1) ∷ []) ∵
-    split ! $ move ! (1 ∷ []) $ fsplit ! $ handle_tells E.al ! a z.0.4.0 (λ hv is fits.
+    split ! $ move ! (1 ∷ []) $ fsplit ! $ handle_tells the_heap ! a z.0.4.0 (λ hv is fits.
     let w = empty_word hv in let typed = empty_typed hv fits in
     -- [the allocator; nothing; no tokens; nothing is required]
     let Γ : List (Item 𝓤) = ‵ (heap.the_row.own_val a (hv ∷ [])) ∷ ‵ ftrue ∷ ‵ ftrue ∷ raw ((c z.0.0 z.0.3).requires z.1) ∷ [] in
@@ -41,7 +41,7 @@ none_spec 𝓤 𝓛 𝓜 𝓡 wired =
     (qed 𝓛 Γ ∵ enter ! 𝓣.C 𝓣.Λ fn (hv ∷ []) Post $ alloc_all ! (λ ls. pass_all ! refl (fits, tt) $
     sets ! (agg ! (and_then ! (lit ! tt) (and_then ! (get ! refl) (no_more !)))) refl typed $
     returns ! (look_at ! 0 refl) $ free_all ! refl $ keep ! (0 ∷ 2 ∷ []) $
-    empty_in ! hv a hush $
+    empty_in ! hv a $
     suffices ! _ (ends_at 𝓛 f.ended stayed c z w (record { at = null_ptr; alloc = a; held = false; value = hush }) (_, tt) (tt, tt)) $
     says ! refl $
     nothing ! $ nothing ! $ fjoin ! $ join ! $ move ! (1 ∷ 0 ∷ []) $ join ! $ done !)))))

@@ -19,7 +19,7 @@ use Rattle.core.proofs.alloc.Calls.{Goes-blank}
 use Rattle.std.proofs.raw_atomic.Walks.{proved_at}
 use Rattle.std_alloc.proofs.BoxSteps.Form.{D, B, word, box_typed}
 use Rattle.std_alloc.proofs.BoxSteps.Steps.{box_out, box_in}
-use Rattle.ct_embed.proofs.WorldAtHeap.{at_heap, parted}
+use Rattle.ct_embed.proofs.AtHeap.{world, parted}
 use Rattle.ct_embed.specs.contracts.world_handle.WorldHandle as handles
 use Rattle.ct_embed.specs.contracts.world_handle.WorldHandle.hold as f
 use Rattle.ct_embed.proofs.world_handle.WorldHandle.hold.Statement.{statement}
@@ -27,9 +27,9 @@ use Rattle.ct_embed.proofs.world_handle.WorldHandle.hold.Code as code
 
 pub hold_spec : {M : Type 1} → statement M
 hold_spec 𝓤 𝓛 𝓜 𝓡 wired =
-    let 𝓣 = tables 𝓤 𝓛.H 𝓜 𝓡 𝓡.env in let c = f.clauses 𝓛 𝓜.mem 𝓡.returns in let fn = code.function in let E = at_heap in
-    let stayed : Stays f.ended.signature.params f.ended.kept = (stay_dropped (plain (λ _. parted)) yes, tt) in
-    proved_at 𝓛 f.ended stayed c 𝓜 𝓡 (Goes-blank 𝓛 0 (plain (λ _. parted)) yes (λ κs x w. tt), tt)
+    let 𝓣 = tables 𝓤 𝓛.H 𝓜 𝓡 𝓡.env in let c = f.clauses 𝓛 𝓜.mem 𝓡.returns in let fn = code.function in let E = world in
+    let stayed : Stays f.ended.signature.params f.ended.kept = (stay_dropped (plain (λ _. parted E)) yes, tt) in
+    proved_at 𝓛 f.ended stayed c 𝓜 𝓡 (Goes-blank 𝓛 0 (plain (λ _. parted E)) yes (λ κs x w. tt), tt)
     f.Key.name fn (code.unfolded 𝓤 𝓛.H 𝓜 𝓡 wired) (λ z are.
     let v = z.0.3.0 in let d : D E = record { ptr = v.ptr; alloc = v.alloc; value = v.value } in
     let Post : Val → SProp 𝓤 = (walk_of 𝓛 f.ended stayed c).post z in

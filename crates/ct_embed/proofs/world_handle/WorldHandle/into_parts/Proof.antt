@@ -20,7 +20,7 @@ use Rattle.core.proofs.alloc.Calls.{Goes-blank}
 use Rattle.std.proofs.raw_atomic.Walks.{proved_at}
 use Rattle.std_alloc.proofs.BoxSteps.Form.{D, B, word, box_typed}
 use Rattle.std_alloc.proofs.BoxSteps.Steps.{box_out, box_in}
-use Rattle.ct_embed.proofs.WorldAtHeap.{at_heap, parted}
+use Rattle.ct_embed.proofs.AtHeap.{world, parted}
 use Rattle.ct_embed.specs.contracts.world_handle.WorldHandle as handles
 use Rattle.ct_embed.specs.contracts.world_handle.WorldHandle.into_parts as f
 use Rattle.ct_embed.proofs.world_handle.WorldHandle.into_parts.Statement.{statement}
@@ -28,7 +28,7 @@ use Rattle.ct_embed.proofs.world_handle.WorldHandle.into_parts.Code as code
 
 pub into_parts_spec : {M : Type 1} → statement M
 into_parts_spec 𝓤 𝓛 𝓜 𝓡 wired =
-    let 𝓣 = tables 𝓤 𝓛.H 𝓜 𝓡 𝓡.env in let c = f.clauses 𝓛 𝓜.mem 𝓡.returns in let fn = code.function in let E = at_heap in
+    let 𝓣 = tables 𝓤 𝓛.H 𝓜 𝓡 𝓡.env in let c = f.clauses 𝓛 𝓜.mem 𝓡.returns in let fn = code.function in let E = world in
     let stayed : Stays f.ended.signature.params f.ended.kept = (stay_dropped (plain (λ _. handles.the_row)) yes, tt) in
     proved_at 𝓛 f.ended stayed c 𝓜 𝓡 (Goes-blank 𝓛 0 (plain (λ _. handles.the_row)) yes (λ κs x w. tt), tt)
     f.Key.name fn (code.unfolded 𝓤 𝓛.H 𝓜 𝓡 wired) (λ z are.
@@ -49,7 +49,7 @@ into_parts_spec 𝓤 𝓛 𝓜 𝓡 wired =
     sets ! (of_opd ! (get ! refl)) refl (tt, tt) $
     sets ! (agg ! (and_then ! (get ! refl) (and_then ! (get ! refl) (no_more !)))) refl typed $
     returns ! (look_at ! 0 refl) $ free_all ! refl $ keep ! (0 ∷ 2 ∷ []) $
-    let made : parted.Denot = record { ptr = d.ptr; alloc = d.alloc; value = d.value } in
-    use1 𝓛 (‵ (parted.own_val made (w ∷ []))) (id⊢ 𝓤 _) $
+    let made : (parted E).Denot = record { ptr = d.ptr; alloc = d.alloc; value = d.value } in
+    use1 𝓛 (‵ ((parted E).own_val made (w ∷ []))) (id⊢ 𝓤 _) $
     suffices ! _ (ends_at 𝓛 f.ended stayed c z w made (_, tt) (tt, tt)) $ says ! refl $
     nothing ! $ nothing ! $ fjoin ! $ join ! $ move ! (1 ∷ 0 ∷ []) $ join ! $ done !))))))

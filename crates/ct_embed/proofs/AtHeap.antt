@@ -1,0 +1,60 @@
+-- A world or a session in a box at the program's heap, as the proofs of handles have it. Assumes `Logic`.
+--     world, session     each with `Global`; a handle that holds, its parts and its box own the same of it
+--     empty_in           a null pointer and the heap make a handle that holds nothing; what it doesn't hold is not owned
+use mathlib.Core.Path.{refl}
+use mathlib.Core.Bool.{false}
+use mathlib.Core.List.{List, [], ◌∷◌}
+use lib.Dec.{T, lit<}
+use seplogic.Ra.Ura.{Ura}
+use mir.Syntax.{impl, tnil, dnil}
+use types.Logic.{Logic}
+use types.Kit.{Item, Goal, Step, step, ‵, ◌$◌, move, fjoin, fpack, feq_i}
+use denote.RattleType.{RattleType, Valss}
+use denote.RawPtr.{RawPtr, null_ptr, ptr_val}
+use denote.Steps.{nothing}
+use denote.Struct.Struct.{within}
+use denote.Struct.Owning.{shape}
+use mir.Val.{Val, vstruct, vcons, vnil, has_ty, WT}
+use Rattle.std.specs.contracts.alloc.Global as heap
+use Rattle.std.proofs.alloc.Global.TheLaws as heap_laws
+use Rattle.std.specs.contracts.impls.GlobalAllocator.TheImpl.{ghosts}
+use Rattle.core.proofs.alloc.Calls.{Al, α, Fits}
+use Rattle.std_alloc.proofs.ResultValues.{and_tt}
+use Rattle.std_alloc.proofs.BoxSteps.Form.{Bx, box_ty}
+use Rattle.ct_embed.specs.contracts.own_session.OwnSession as sessions
+use Rattle.ct_embed.proofs.own_session.OwnSession.TheLaws as session_laws
+use Rattle.ct_embed.specs.contracts.own_world.OwnWorld as worlds
+use Rattle.ct_embed.proofs.own_world.OwnWorld.TheLaws as world_laws
+use Rattle.ct_embed.specs.contracts.parts.Parts as parts
+use Rattle.ct_embed.specs.contracts.session_handle.SessionHandle as handle
+use Rattle.ct_embed.specs.Telling.{hush}
+
+abbrev pub the_heap : Al
+the_heap = record { row = heap.the_row; laws = heap_laws.the_row_laws; g = ghosts; d = impl [] tnil dnil; drops = impl [] tnil dnil }
+
+abbrev pub world : Bx
+world = record { row = worlds.the_row; laws = world_laws.the_row_laws; al = the_heap }
+
+abbrev pub session : Bx
+session = record { row = sessions.the_row; laws = session_laws.the_row_laws; al = the_heap }
+
+abbrev pub parted : Bx → RattleType
+parted E = parts.the_row E.row heap.the_row ghosts
+
+abbrev pub empty_word : Val → Val
+empty_word hv = vstruct (vcons (ptr_val null_ptr) (vcons hv vnil))
+
+pub empty_typed : (hv : Val) → Fits the_heap hv → T (has_ty (box_ty session) (empty_word hv)) × WT (empty_word hv)
+empty_typed hv fits = (and_tt (has_ty (α the_heap) hv) fits.0, (record { fits = lit< tt }, (fits.1, tt)))
+
+module _ {M : Type 1} {𝓤 : Ura M} {𝓛 : Logic 𝓤} {K : Type 0} {Γ : List (Item 𝓤)} {G : Goal 𝓤 𝓛.H} where
+  pub empty_in : K → (hv : Val) (a : heap.the_row.Denot)
+      → Step K 𝓛 (‵ (handle.the_row.own_val (record { at = null_ptr; alloc = a; held = false; value = hush }) (empty_word hv ∷ [])) ∷ Γ) G
+      (‵ (heap.the_row.own_val a (hv ∷ [])) ∷ Γ) G
+  empty_in t hv a = step (λ s. let w = empty_word hv in
+      nothing t $ nothing t $ move t (2 ∷ 0 ∷ []) $ fjoin t $
+      feq_i t (List Val) (ptr_val null_ptr ∷ []) (ptr_val null_ptr ∷ []) refl $ fjoin t $
+      feq_i t (List Val) (w ∷ []) (w ∷ []) refl $ fjoin t $
+      fpack t (Valss (RawPtr ∷ heap.the_field.row ∷ []))
+      (within (shape handle.the_type) (null_ptr, (heap.the_field.into a, tt)) (w ∷ [])) (ptr_val null_ptr ∷ [], (hv ∷ [], tt)) $
+      fjoin t $ s)
