@@ -1,5 +1,5 @@
 -- A schedule with a step, a fact or an empty line more.
-use Rattle.std.proofs.Common.{◌≡◌, ◌≤◌, ℕ, true, List, refl, sym, ap, ◌∙◌, None, Ok, Result}
+use Rattle.std.proofs.Common.{◌≡◌, ◌≤◌, ℕ, true, List, refl, ap, None, Ok, Result}
 use Rattle.ct_names.specs.Group.{is_member}
 use Rattle.ct_model.specs.Cause.{cause}
 use Rattle.ct_model.specs.declared.step.Step.{Step}

@@ -2,7 +2,6 @@
 use Rattle.std.proofs.Common.{◌≡◌, ◌+◌, ℕ, Bool, true, false, not, List, [], ◌∷◌, ◌++◌, ap, sym, refl, ◌∙◌, subst, Some, None, Ok, Err}
 use Rattle.std.proofs.Common.{Option, Result, append_assoc, append-nil, get_or, arith}
 use Rattle.std.specs.Prelude.{◌&&◌, is_ok}
-use Rattle.std.specs.List.{slice_split, All, list_all}
 use Rattle.std.specs.Str.{IsUtf8, is_utf8}
 use Rattle.std.proofs.lemmas.Bool.Decides.{nat_tests}
 use Rattle.std.proofs.lemmas.List.Elements.{All-nil}
@@ -11,10 +10,10 @@ use Rattle.std.proofs.lemmas.List.Sums.{AllPass-from_list_all}
 use Rattle.std.proofs.lemmas.List.Splits.{slice_split_at, slice_split_none}
 use Rattle.ct_grammar.specs.declared.line.Line.{Line}
 use Rattle.ct_grammar.specs.declared.goal.Goal.{Goal}
-use Rattle.ct_grammar.specs.declared.line.Line.TheVariants.{Blank, Given as Gives, Play as Plays}
+use Rattle.ct_grammar.specs.declared.line.Line.TheVariants.{Blank, Play as Plays}
 use Rattle.ct_grammar.specs.declared.misfit.Misfit.{Misfit}
 use Rattle.ct_grammar.specs.declared.play.Play.{Play}
-use Rattle.ct_grammar.specs.declared.play.Play.TheVariants.{Act as Acts, Stated, Turns, Settle, Until, Cut, Heal, Expect, Ask}
+use Rattle.ct_grammar.specs.declared.play.Play.TheVariants.{Expect}
 use Rattle.ct_grammar.specs.declared.term.Term.{Term}
 use Rattle.ct_grammar.specs.Lines.{line_of}
 use Rattle.ct_grammar.specs.Sides.{whole}

@@ -3,15 +3,13 @@ use Rattle.std.proofs.Common.{◌≡◌, ℕ, true, List, [], ◌∷◌, ◌++�
 use Rattle.std.specs.Prelude.{decimal, codes}
 use Rattle.std.specs.List.{concat}
 use Rattle.ct_grammar.specs.declared.act.Act.{Act}
-use Rattle.ct_grammar.specs.declared.act.Act.TheVariants.{Submit, Receive, Begin, Enter, Choose, Adopt, Suspect, Conclude, Deliver}
-use Rattle.ct_grammar.specs.declared.act.Act.TheVariants.{Follow, Crash, Postpone, Lose, Repeat, LoseFrom}
+use Rattle.ct_grammar.specs.declared.act.Act.TheVariants.{LoseFrom}
 use Rattle.ct_grammar.specs.declared.carried.Carried.{Carried}
-use Rattle.ct_grammar.specs.declared.carried.Carried.TheVariants.{Data, Est, Prop, Ack, Nack, Dec}
+use Rattle.ct_grammar.specs.declared.carried.Carried.TheVariants.{Data}
 use Rattle.ct_grammar.specs.declared.pick.Pick.{Pick}
 use Rattle.ct_grammar.specs.declared.pick.Pick.TheVariants.{Serial, First}
 use Rattle.ct_names.specs.declared.command.Command.{Command}
 use Rattle.ct_names.specs.declared.command.Command.TheVariants.{Set, Add, Copy}
-use Rattle.ct_grammar.specs.Words.{Word, text_of}
 use Rattle.ct_listing.specs.Leading.{one_line}
 use Rattle.ct_listing.specs.Expecting.{IsLone}
 use Rattle.ct_print.specs.Acts.{message_word, place_word, carried_text, sent_text, pick_text, command_text, act_text}

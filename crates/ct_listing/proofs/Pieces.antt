@@ -1,14 +1,12 @@
 -- Words that can be quoted, with spaces between them.
-use Rattle.std.proofs.Common.{◌≡◌, ◌<◌, ◌≤◌, ◌/◌, ◌%◌, ℕ, zero, suc, Bool, true, false, not, List, [], ◌∷◌, ◌++◌, ap, sym, refl, ◌∙◌}
-use Rattle.std.proofs.Common.{arith, length, get_or, subst, eqb, cond}
-use Rattle.std.specs.Prelude.{decimal, filter, nat_le, ◌&&◌, ◌==◌, codes, map}
-use Rattle.std.specs.List.{slice_split, take_while, join_with_byte, list_all, concat, All}
+use Rattle.std.proofs.Common.{◌≡◌, ◌<◌, ◌/◌, ◌%◌, ℕ, zero, suc, Bool, true, false, not, List, [], ◌∷◌, ◌++◌, refl, ◌∙◌, arith, length, eqb}
+use Rattle.std.proofs.Common.{cond}
+use Rattle.std.specs.Prelude.{decimal, nat_le, ◌&&◌}
+use Rattle.std.specs.List.{join_with_byte, list_all, concat}
 use Rattle.std.specs.Fmt.{digits, digits_onto, digit_glyph}
 use Rattle.std.proofs.lemmas.Bool.Decides.{nat_tests}
 use Rattle.std.proofs.lemmas.List.Folds.{list_all-append}
-use Rattle.std.proofs.lemmas.List.Sums.{take_while-cons, AllPass-from_list_all}
-use Rattle.std.proofs.lemmas.List.Splits.{slice_split_none}
-use Rattle.ct_grammar.specs.Words.{Word, is_blank, is_nothing, begins_comment, all_words, words_of, text_of}
+use Rattle.ct_grammar.specs.Words.{Word, words_of}
 use Rattle.ct_judging.specs.Reading.{begins_record}
 use Rattle.ct_grammar.specs.Texts.{is_feed}
 use Rattle.ct_listing.specs.Leading.{one_line}

@@ -1,6 +1,6 @@
 -- Lines that are played in a world that is not cut.
-use Rattle.std.proofs.Common.{◌≡◌, ◌<◌, ◌≤◌, ◌-◌, ℕ, Bool, true, false, List, [], ◌∷◌, ap, sym, refl, ◌∙◌, arith, Option, Some, None}
-use Rattle.std.proofs.Common.{Result, Ok, Err, get_or, replicate, cond}
+use Rattle.std.proofs.Common.{◌≡◌, ◌-◌, ℕ, Bool, true, false, List, [], ◌∷◌, ap, refl, ◌∙◌, arith, Option, Some, None, Result, Ok, Err}
+use Rattle.std.proofs.Common.{get_or, cond}
 use Rattle.std.specs.Str.{bytes_eq}
 use Rattle.std.proofs.lemmas.List.{get_or-replicate}
 use Rattle.std.proofs.lemmas.Slice.Eq.{bytes_eq-Decides}
@@ -11,13 +11,12 @@ use Rattle.ct_model.specs.Cause.{cause}
 use Rattle.ct_model.specs.declared.step.Step.{Step}
 use Rattle.ct_model.specs.declared.step.Step.TheVariants as step
 use Rattle.ct_grammar.specs.declared.act.Act.{Act}
-use Rattle.ct_grammar.specs.declared.act.Act.TheVariants.{Submit, Receive, Begin, Enter, Choose, Adopt, Suspect, Conclude, Deliver}
-use Rattle.ct_grammar.specs.declared.act.Act.TheVariants.{Follow, Crash, Postpone, Lose, Repeat, LoseFrom}
+use Rattle.ct_grammar.specs.declared.act.Act.TheVariants.{Receive, LoseFrom}
 use Rattle.ct_grammar.specs.declared.fact.Fact.{Fact}
 use Rattle.ct_grammar.specs.declared.play.Play.TheVariants.{Act as Acts, Expect}
 use Rattle.ct_grammar.specs.declared.who.Who.TheVariants.{One}
-use Rattle.ct_grammar.specs.Sides.{side_of, together, whole}
-use Rattle.ct_play.specs.Acting.{after_step, done, go_on, step_of, stepped, unless_barred, unless_refused}
+use Rattle.ct_grammar.specs.Sides.{side_of, whole}
+use Rattle.ct_play.specs.Acting.{after_step, done, go_on, step_of, stepped}
 use Rattle.ct_play.specs.Cuts.{barred, is_beside, is_near}
 use Rattle.ct_play.specs.Claims.{is_true_of}
 use Rattle.ct_play.specs.Expecting.{expected, unmet}

@@ -1,22 +1,20 @@
 -- What is there at a member.
-use Rattle.std.proofs.Common.{◌≡◌, ◌≤◌, ℕ, Bool, true, false, List, [], ◌∷◌, ◌++◌, refl, sym, ap, ◌∙◌, Option, Some, None}
+use Rattle.std.proofs.Common.{◌≡◌, ◌≤◌, ℕ, Bool, true, false, List, [], ◌++◌, refl, sym, ap, ◌∙◌, Option, Some, None}
 use Rattle.std.specs.Prelude.{codes, decimal, is_some, option_map, ◌&&◌}
 use Rattle.ct_names.specs.Group.{is_member}
 use Rattle.ct_model.specs.declared.phase.Phase.{Phase}
-use Rattle.ct_model.specs.declared.phase.Phase.TheVariants.{Rest, Gather, Wait, Tally}
+use Rattle.ct_model.specs.declared.phase.Phase.TheVariants.{Rest}
 use Rattle.ct_model.specs.Rehearsal.{state_of}
-use Rattle.ct_model.specs.State.{delivered, is_crashed}
-use Rattle.ct_table.specs.Table.{table}
+use Rattle.ct_model.specs.State.{is_crashed}
 use Rattle.ct_world.specs.World.{member_of}
 use Rattle.ct_text.specs.Standing.{instance_of}
-use Rattle.ct_grammar.specs.declared.fact.Fact.{Fact}
 use Rattle.ct_grammar.specs.declared.fact.Fact.TheVariants.{Up, Crashed, Idle, Instance, Round, Phase as InPhase, Delivered, Table}
 use Rattle.ct_grammar.specs.Numbers.{max_u32}
 use Rattle.ct_print.specs.Facts.{fact_text}
 use Rattle.ct_play.specs.Facts.{open_text, place_of, there}
 use Rattle.ct_play.specs.Played.{Played}
 use Rattle.ct_listing.specs.Expecting.{IsThere}
-use Rattle.ct_listing.proofs.OneLine.{decimal_line, two_lines}
+use Rattle.ct_listing.proofs.OneLine.{decimal_line}
 use Rattle.ct_listing.proofs.Quoted.{delivered_there, table_there}
 
 module _ (s : Played) (p : ℕ) where

@@ -1,25 +1,22 @@
 -- Texts of what is there, which a line can quote.
-use Rattle.std.proofs.Common.{◌≡◌, ◌<◌, ℕ, zero, suc, Bool, true, false, not, List, [], ◌∷◌, ◌++◌, refl, ap, sym, ◌∙◌, subst, arith}
-use Rattle.std.proofs.Common.{length, Option, Some, None}
+use Rattle.std.proofs.Common.{◌≡◌, ◌<◌, ℕ, zero, suc, Bool, true, false, not, List, [], ◌∷◌, ◌++◌, refl, ap, sym, ◌∙◌, subst, arith, length}
+use Rattle.std.proofs.Common.{Option, Some, None}
 use Rattle.std.specs.Prelude.{codes, map, slice_index}
 use Rattle.std.specs.List.{join_with_byte, list_all}
 use Rattle.std.specs.Str.{bytes_eq}
 use Rattle.std.proofs.lemmas.Slice.Eq.{bytes_eq-Decides}
 use Rattle.ct_names.specs.Message.{Message}
 use Rattle.ct_names.specs.MessageText.{message_text}
-use Rattle.ct_model.specs.Rehearsal.{state_of}
 use Rattle.ct_model.specs.State.{delivered}
 use Rattle.ct_table.specs.Table.{table}
 use Rattle.ct_world.specs.World.{member_of}
 use Rattle.ct_text.specs.Lists.{first_registers, list_text, messages_text, nonzero, register_text, register_texts, table_text}
 use Rattle.ct_grammar.specs.Claims.{amount_claim, before, counted, delivered as claimed, event_claim, step_claim}
 use Rattle.ct_grammar.specs.Goals.{is_and}
-use Rattle.ct_grammar.specs.Words.{Word, text_of, words_of}
+use Rattle.ct_grammar.specs.Words.{Word, text_of}
 use Rattle.ct_grammar.specs.declared.claim.Amount.{Amount}
 use Rattle.ct_grammar.specs.declared.claim.Amount.TheVariants as amount
-use Rattle.ct_grammar.specs.declared.fact.Fact.{Fact}
 use Rattle.ct_grammar.specs.declared.fact.Fact.TheVariants.{Delivered, Table}
-use Rattle.ct_play.specs.Facts.{there}
 use Rattle.ct_play.specs.Played.{Played}
 use Rattle.ct_listing.specs.Expecting.{IsThere}
 use Rattle.ct_print.specs.Facts.{fact_text}

@@ -15,7 +15,7 @@ use Rattle.ct_world.specs.Replay.{IsFaultOf}
 use Rattle.ct_world.specs.declared.replay_fault.ReplayFault.{ReplayFault}
 use Rattle.ct_told.proofs.Seen.{input_seen}
 use Rattle.ct_told.specs.declared.show_fault.ShowFault.{ShowFault}
-use Rattle.ct_told.specs.declared.show_fault.ShowFault.TheVariants.{NoMember, TooManySteps, Unread, Program}
+use Rattle.ct_told.specs.declared.show_fault.ShowFault.TheVariants.{Program}
 use Rattle.ct_listing.specs.Listing.{FailsOn, IsOfListing, IsRefusal, IsScheduleIn, WritesSchedule, WritesScheduleInPart}
 
 writes : (read : Result Rehearsal ReadFault) (text out : List ℕ) (old new : Option (List ℕ)) → IsScheduleIn read text → out ≡ text →

@@ -1,6 +1,4 @@
-use Rattle.std.proofs.Common.{◌≡◌, ◌≤◌, Ok, arith, string_bytes}
-use Rattle.ct_grammar.specs.Numbers.{max_u8}
-use Rattle.ct_play.specs.Acting.{step_of}
+use Rattle.std.proofs.Common.{arith, string_bytes}
 use Rattle.ct_play.specs.Faults.{IsShort}
 use Rattle.ct_play.proofs.Faulty.{handed}
 use Rattle.ct_listing.proofs.Growing.{IsNext, step_is, step_on, step_short}
