@@ -1,5 +1,5 @@
 -- What detectors answer, one question after the other.
-use Rattle.std.proofs.Common.{◌≡◌, ◌⊎◌, inl, inr, ◌<◌, ◌≤◌, ◌+◌, ◌-◌, ℕ, zero, suc, Bool, true, false, List, [], ◌∷◌, ◌++◌, refl, ap, ap₂}
+use Rattle.std.proofs.Common.{◌≡◌, inl, inr, ◌<◌, ◌≤◌, ◌+◌, ◌-◌, ℕ, zero, suc, Bool, true, false, List, [], ◌∷◌, ◌++◌, refl, ap, ap₂}
 use Rattle.std.proofs.Common.{sym, ◌∙◌, subst, append-nil, arith, length, length-append, set}
 use Rattle.std.proofs.lemmas.Bool.Decides.{nat_tests}
 use Rattle.std.proofs.Math.Nat.{eq-or-lt_of_le}
@@ -51,15 +51,11 @@ follows_not ds p d is = (d, is, λ k. let same : 0 + k ≡ k = omega arith in ap
 
 get_own : (xs : List SeededState) (i : ℕ) (x y : SeededState) → slice_get xs i ≡ Some x → slice_get (set xs i y) i ≡ Some y
 get_own [] i x y h = absurd (cc h)
-get_own (z ∷ xs) zero x y h = refl
-get_own (z ∷ xs) (suc i) x y h = get_own xs i x y h
+get_own (z ∷ xs) i x y h = grind (arith, get_own xs)
 
 get_other : (xs : List SeededState) (i j : ℕ) (y : SeededState) → (j ≡ i → ⊥) → slice_get (set xs i y) j ≡ slice_get xs j
 get_other [] i j y h = refl
-get_other (z ∷ xs) zero zero y h = absurd (h refl)
-get_other (z ∷ xs) zero (suc j) y h = refl
-get_other (z ∷ xs) (suc i) zero y h = refl
-get_other (z ∷ xs) (suc i) (suc j) y h = get_other xs i j y (λ same. h (ap suc same))
+get_other (z ∷ xs) i j y h = grind (arith, get_other xs)
 
 follows_own : (ds : List SeededState) (p : ℕ) (d : SeededState) (ask : Ask) → slice_get ds (p - 1) ≡ Some d →
     Follows (says_yes d ∷ []) (set ds (p - 1) (after_ask d ask)) p d
@@ -117,21 +113,18 @@ last_there (y ∷ xs) x = last_there xs x
 
 before_there : (xs : List SeededState) (x : SeededState) (i : ℕ) → i < length xs → slice_get (xs ++ x ∷ []) i ≡ slice_get xs i
 before_there [] x i low = absurd (omega (arith, low))
-before_there (y ∷ xs) x zero low = refl
-before_there (y ∷ xs) x (suc i) low = before_there xs x i (omega (arith, low))
-
-detector_by : (o : FreeOptions) (k p : ℕ) → 1 ≤ p → (p ≡ suc k) ⊎ (p < suc k) →
-    (p ≤ k → slice_get (first_detectors o k) (p - 1) ≡ Some (detector_of o p)) →
-    slice_get (first_detectors o k ++ detector_of o (suc k) ∷ []) (p - 1) ≡ Some (detector_of o p)
-detector_by o k p low (inl same) more =
-    let many : length (first_detectors o k) ≡ k = first_many o k in
-    let place : length (first_detectors o k) ≡ p - 1 = omega (arith, many, same) in
-    subst (λ i. slice_get (first_detectors o k ++ detector_of o (suc k) ∷ []) i ≡ Some (detector_of o p)) place
-    (last_there (first_detectors o k) (detector_of o (suc k)) ∙ ap (λ n. Some (detector_of o n)) (sym same))
-detector_by o k p low (inr less) more =
-    let many : length (first_detectors o k) ≡ k = first_many o k in
-    before_there (first_detectors o k) (detector_of o (suc k)) (p - 1) (omega (arith, many, low, less)) ∙ more (omega (arith, less))
+before_there (y ∷ xs) x i low = grind (arith, before_there xs)
 
 pub detector_at : (o : FreeOptions) (n p : ℕ) → 1 ≤ p → p ≤ n → slice_get (first_detectors o n) (p - 1) ≡ Some (detector_of o p)
 detector_at o zero p low high = absurd (omega (arith, low, high))
-detector_at o (suc k) p low high = detector_by o k p low (eq-or-lt_of_le high) (λ less. detector_at o k p low less)
+detector_at o (suc k) p low high =
+    let ds = first_detectors o k in
+    let last = detector_of o (suc k) in
+    let many : length ds ≡ k = first_many o k in
+    elim (eq-or-lt_of_le high) [
+      | inl same ↦
+          let place : length ds ≡ p - 1 = omega (arith, many, same) in
+          subst (λ i. slice_get (ds ++ last ∷ []) i ≡ Some (detector_of o p)) place
+          (last_there ds last ∙ ap (λ n. Some (detector_of o n)) (sym same))
+      | inr less ↦ before_there ds last (p - 1) (omega (arith, many, low, less)) ∙ detector_at o k p low (omega (arith, less))
+    ]

@@ -6,6 +6,7 @@ use Rattle.std.proofs.lemmas.Bool.Decides.{nat_tests}
 use Rattle.std.proofs.lemmas.List.Splits.{length-slice_split}
 use Rattle.std.specs.Prelude.{◌==◌, ◌||◌, nat_lt, if◌then◌else◌}
 use Rattle.std.specs.List.{concat, onto_first, slice_split}
+use Rattle.ct_model.proofs.Basics.Tests.{or_false}
 use Rattle.ct_grammar.specs.Texts.{is_feed, lines_of}
 use Rattle.ct_judge.specs.Answers.{answer, is_refused, standing_after}
 use Rattle.ct_judging.specs.Reading.{line_in}
@@ -13,6 +14,7 @@ use Rattle.ct_judge.specs.Sessions.{Hearing, Session, answer_at, at_end, kept, l
 use Rattle.ct_judging.specs.Standing.{Standing}
 use Rattle.ct_judge.specs.declared.session.TheConstants.{LONGEST}
 use Rattle.ct_laws.specs.Sessions.{answers, but_nothing, is_any_refused, last_line, lines_heard}
+use Rattle.ct_laws.proofs.Cases.{if_either}
 
 -- ---- the lines of an input, of which the first has begun
 
@@ -58,16 +60,11 @@ unfolding lines_heard
 lines_are input = ap but_nothing (lines_whole input)
 
 -- some line is the last one
-over_one : (c : Bool) (line m : List ℕ) (byte : ℕ) (bytes : List ℕ) →
-    ((n : List ℕ) → but_nothing (line ∷ lines_behind n bytes) ≡ line ∷ but_nothing (lines_behind n bytes)) →
-    but_nothing (line ∷ (if c then m ∷ lines_behind [] bytes else lines_behind (m ++ byte ∷ []) bytes))
-    ≡ line ∷ but_nothing (if c then m ∷ lines_behind [] bytes else lines_behind (m ++ byte ∷ []) bytes)
-over_one true line m byte bytes more = refl
-over_one false line m byte bytes more = more (m ++ byte ∷ [])
-
 one_over : (bytes line m : List ℕ) → but_nothing (line ∷ lines_behind m bytes) ≡ line ∷ but_nothing (lines_behind m bytes)
 one_over [] line m = refl
-one_over (byte ∷ bytes) line m = over_one (byte == 10) line m byte bytes (λ n. one_over bytes line n)
+one_over (byte ∷ bytes) line m =
+    if_either (λ lines. but_nothing (line ∷ lines) ≡ line ∷ but_nothing lines) (byte == 10) (m ∷ lines_behind [] bytes)
+    (lines_behind (m ++ byte ∷ []) bytes) refl (one_over bytes line (m ++ byte ∷ []))
 
 -- ---- lines that are too long
 
@@ -120,10 +117,6 @@ pub record IsByLine (t : Hearing) (lines : List (List ℕ)) (s : Session) : Type
   pub refused : s.hearing.refused ≡ (t.refused || is_any_refused t.standing lines)
   pub standing : s.hearing.standing ≡ standing_behind t.standing lines
 
-or_false : (b : Bool) → b ≡ (b || false)
-or_false true = refl
-or_false false = refl
-
 -- the last line
 last_over : (t : Hearing) (line : List ℕ) → line_if t.line ≡ line_if line →
     IsByLine t (line ∷ []) (record { text = answer_at t; hearing = line_over t })
@@ -131,12 +124,12 @@ unfolding answer_at line_over
 last_over t line same = record {
   text = ap (answer t.standing) same ∙ sym (append-nil (answer t.standing (line_if line)));
   refused = ap (λ r. t.refused || is_refused t.standing r) same
-      ∙ ap (λ b. t.refused || b) (or_false (is_refused t.standing (line_if line)));
+      ∙ ap (λ b. t.refused || b) (sym (or_false (is_refused t.standing (line_if line))));
   standing = ap (standing_after t.standing) same;
 }
 
 nothing_over : (t : Hearing) → IsByLine t [] (record { text = []; hearing = t })
-nothing_over t = record { text = refl; refused = or_false t.refused; standing = refl }
+nothing_over t = record { text = refl; refused = sym (or_false t.refused); standing = refl }
 
 never_long : (P : Type 0) → nat_lt LONGEST 0 ≡ true → P
 never_long P h = absurd (cc h)

@@ -1,5 +1,5 @@
 -- Detectors of one rate.
-use Rattle.std.proofs.Common.{◌≡◌, ◌+◌, ◌-◌, ℕ, zero, suc, true, false, List, [], ◌∷◌, ◌++◌, length, refl, ap, sym, ◌∙◌}
+use Rattle.std.proofs.Common.{◌≡◌, ◌+◌, ◌-◌, ℕ, zero, suc, true, false, List, [], ◌∷◌, ◌++◌, length, refl}
 use Rattle.std.proofs.Common.{arith, length-append, length-set, set}
 use Rattle.std.proofs.lemmas.Bool.Decides.{nat_tests}
 use Rattle.std.specs.Prelude.{Option, Some, None, slice_get, ⊤}
@@ -21,10 +21,7 @@ AllRated rate (d ∷ ds) = (d.rate ≡ rate) × AllRated rate ds
 
 pub rated_there : (rate : ℕ) (ds : List SeededState) (i : ℕ) (d : SeededState) → AllRated rate ds → slice_get ds i ≡ Some d → d.rate ≡ rate
 rated_there rate [] i d h is = absurd (cc is)
-rated_there rate (x ∷ ds) zero d h is =
-    let same : x ≡ d = cc is in
-    ap (λ (y : SeededState). y.rate) (sym same) ∙ h.0
-rated_there rate (x ∷ ds) (suc i) d h is = rated_there rate ds i d h.1 is
+rated_there rate (x ∷ ds) i d h is = grind (arith, rated_there rate ds)
 
 rated_set : (rate : ℕ) (ds : List SeededState) (i : ℕ) (d : SeededState) → AllRated rate ds → d.rate ≡ rate → AllRated rate (set ds i d)
 rated_set rate [] i d h k = tt

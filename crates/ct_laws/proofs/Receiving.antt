@@ -1,5 +1,5 @@
 -- What turns of members receive.
-use Rattle.std.proofs.Common.{◌≡◌, inl, inr, ℕ, zero, suc, Bool, true, false, List, [], ◌∷◌, refl, ap₂, ◌∙◌, drop}
+use Rattle.std.proofs.Common.{◌≡◌, ℕ, zero, suc, Bool, true, false, List, [], ◌∷◌, refl, ap₂, ◌∙◌, drop, arith}
 use Rattle.std.specs.Prelude.{◌==◌, if◌then◌else◌, Option, Some, None, find, option_and_then, slice_get, unwrap_or}
 use Rattle.ct_names.specs.Membership.{IsIn}
 use Rattle.ct_names.proofs.Lists.{found-find}
@@ -13,13 +13,11 @@ use Rattle.ct_walk.specs.declared.options.WalkOptions.{WalkOptions}
 
 get_in : (xs : List ℕ) (i k : ℕ) → slice_get xs i ≡ Some k → IsIn k xs
 get_in [] i k h = absurd (cc h)
-get_in (x ∷ xs) zero k h = inl (cc h)
-get_in (x ∷ xs) (suc i) k h = inr (get_in xs i k h)
+get_in (x ∷ xs) i k h = grind (arith, get_in xs)
 
 drop_in : (n k : ℕ) (xs : List ℕ) → IsIn k (drop n xs) → IsIn k xs
 drop_in zero k xs h = h
-drop_in (suc n) k [] h = h
-drop_in (suc n) k (x ∷ xs) h = inr (drop_in n k xs h)
+drop_in (suc n) k xs h = grind (arith, drop_in n k)
 
 received_by : (b : Bool) (f : ℕ → Bool) (xs : List ℕ) (place k : ℕ) →
     (if b then slice_get xs place else find f (drop place xs)) ≡ Some k → IsIn k xs

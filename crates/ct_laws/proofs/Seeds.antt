@@ -1,12 +1,12 @@
 -- The first seed of a search.
-use Rattle.std.proofs.Common.{◌≡◌, ◌⊎◌, inl, inr, ◌<◌, ◌≤◌, ◌+◌, ◌-◌, ℕ, zero, suc, Bool, true, false, refl, subst, arith}
-use Rattle.std.proofs.Math.Nat.{eq-or-lt_of_le}
+use Rattle.std.proofs.Common.{◌≡◌, ◌<◌, ◌≤◌, ◌+◌, ◌-◌, ℕ, zero, suc, Bool, true, false, refl, subst, arith}
 use Rattle.std.specs.Prelude.{if◌then◌else◌, Some, None}
 use Rattle.ct_grammar.specs.declared.goal.Goal.{Goal}
 use Rattle.ct_walk.specs.Finding.{finds, first_of, first_seed, seeds_to}
 use Rattle.ct_walk.specs.declared.call.Seeds.{Seeds}
 use Rattle.ct_walk.specs.declared.options.WalkOptions.{WalkOptions}
 use Rattle.ct_laws.specs.Walks.{IsLeast, NoneBelow}
+use Rattle.ct_laws.proofs.Cases.{fails_from}
 
 -- the first of so many seeds from this one on
 record IsFound (o : WalkOptions) (goal : Goal) (first more seed : ℕ) : Type 0 where
@@ -19,14 +19,10 @@ none_here : (o : WalkOptions) (goal : Goal) (first : ℕ) → NoneBelow o goal f
 none_here o goal first s low high = absurd (omega (arith, low, high))
 
 -- none of those from the first one on, either
-none_at : (o : WalkOptions) (goal : Goal) (first end : ℕ) → finds o goal first ≡ false → NoneBelow o goal (first + 1) end → (s : ℕ) →
-    (first ≡ s) ⊎ (first < s) → s < end → finds o goal s ≡ false
-none_at o goal first end here later s (inl same) high = subst (λ n. finds o goal n ≡ false) same here
-none_at o goal first end here later s (inr more) high = later s (omega (arith, more)) high
-
 none_more : (o : WalkOptions) (goal : Goal) (first end : ℕ) → finds o goal first ≡ false → NoneBelow o goal (first + 1) end →
     NoneBelow o goal first end
-none_more o goal first end here later s low high = none_at o goal first end here later s (eq-or-lt_of_le low) high
+none_more o goal first end here later =
+    fails_from (finds o goal) (λ s. s < end) first here (λ s more high. later s (omega (arith, more)) high)
 
 found_if : (o : WalkOptions) (goal : Goal) (first more seed : ℕ) (c : Bool) → finds o goal first ≡ c →
     ((s : ℕ) → first_seed o goal (first + 1) more ≡ Some s → IsFound o goal (first + 1) more s) →

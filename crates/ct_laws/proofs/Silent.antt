@@ -1,5 +1,5 @@
 -- Schedules without the lines that play nothing.
-use Rattle.std.proofs.Common.{◌≡◌, ℕ, ◌+◌, Bool, true, false, List, [], ◌∷◌, refl, ap, sym, ◌∙◌, subst}
+use Rattle.std.proofs.Common.{◌≡◌, ℕ, ◌+◌, Bool, true, false, List, [], ◌∷◌, refl, ap, sym, ◌∙◌, subst, arith}
 use Rattle.std.specs.Prelude.{if◌then◌else◌, Option, Some, None, Result, Ok, Err, is_some}
 use Rattle.ct_model.specs.Rehearsal.{Rehearsal}
 use Rattle.ct_grammar.specs.Texts.{lines_of}
@@ -8,17 +8,15 @@ use Rattle.ct_grammar.specs.declared.goal.Goal.{Goal}
 use Rattle.ct_grammar.specs.declared.line.Line.{Line}
 use Rattle.ct_grammar.specs.declared.line.Line.TheVariants.{Blank, Given, Play as Plays}
 use Rattle.ct_grammar.specs.declared.play.Play.{Play}
-use Rattle.ct_grammar.specs.declared.play.Play.TheVariants.{Act, Stated, Turns, Settle, Until, Cut, Heal, Expect, Ask}
+use Rattle.ct_grammar.specs.declared.play.Play.TheVariants.{Expect, Ask}
 use Rattle.ct_grammar.specs.declared.question.Question.{Question}
-use Rattle.ct_grammar.specs.declared.question.Question.TheVariants.{Enabled, Next, State, Waiting, Report, Record, Limits}
 use Rattle.ct_grammar.specs.declared.term.Term.{Term}
-use Rattle.ct_names.specs.Group.{is_member}
 use Rattle.ct_play.specs.Acting.{go_on}
-use Rattle.ct_play.specs.Expecting.{all_known, expected, expected_of, unless_unmet, unmet}
+use Rattle.ct_play.specs.Expecting.{expected, unless_unmet}
 use Rattle.ct_play.specs.Played.{Played}
 use Rattle.ct_play.specs.Playing.{asked, played}
 use Rattle.ct_play.specs.declared.line_fault.LineFault.{LineFault}
-use Rattle.ct_play.specs.declared.line_fault.LineFault.TheVariants.{NoSuchMember, Settled}
+use Rattle.ct_play.specs.declared.line_fault.LineFault.TheVariants.{Settled}
 use Rattle.ct_judging.specs.Judging.{after_play, in_world, taken}
 use Rattle.ct_judging.specs.Reading.{line_in}
 use Rattle.ct_judging.specs.Schedule.{after_line, after_lines, beginning, finished, line_over, schedule, world_at}
@@ -36,37 +34,17 @@ pub unless_same : (s t : Played) (o : Option Term) → unless_unmet s o ≡ Ok t
 unless_same s t None h = cc
 unless_same s t (Some term) h = absurd (cc h)
 
-on_known : (s t : Played) (goal : Goal) (r : Result (Unit {0}) LineFault) → go_on r (λ _. expected_of s goal) ≡ Ok t → t ≡ s
-on_known s t goal (Ok u) h = unless_same s t (unmet s goal) h
-on_known s t goal (Err fault) h = absurd (cc h)
-
 pub expected_same : (s t : Played) (goal : Goal) → expected s goal ≡ Ok t → t ≡ s
 unfolding expected
-expected_same s t goal h = on_known s t goal (all_known s.rehearsal.setting.members goal) h
-
-if_same : (c : Bool) (s t : Played) (p : ℕ) → (if c then Ok s else Err (NoSuchMember p)) ≡ Ok t → t ≡ s
-if_same true s t p h = cc
-if_same false s t p h = absurd (cc h)
+expected_same s t goal h = grind arith
 
 pub asked_same : (s t : Played) (question : Question) → asked s question ≡ Ok t → t ≡ s
-asked_same s t (Enabled p) h = if_same (is_member s.rehearsal.setting.members p) s t p h
-asked_same s t (Next p) h = if_same (is_member s.rehearsal.setting.members p) s t p h
-asked_same s t (State p) h = if_same (is_member s.rehearsal.setting.members p) s t p h
-asked_same s t (Waiting p) h = if_same (is_member s.rehearsal.setting.members p) s t p h
-asked_same s t Report h = cc
-asked_same s t Record h = cc
-asked_same s t Limits h = cc
+asked_same s t question h = grind arith
 
 asks_same : (s t : Played) (play : Play) → asks play ≡ true → played s play ≡ Ok t → t ≡ s
-asks_same s t (Act who act) h e = absurd (cc h)
-asks_same s t (Stated who act text) h e = absurd (cc h)
-asks_same s t (Turns who n set) h e = absurd (cc h)
-asks_same s t (Settle who set) h e = absurd (cc h)
-asks_same s t (Until who set goal) h e = absurd (cc h)
-asks_same s t (Cut sides) h e = absurd (cc h)
-asks_same s t Heal h e = absurd (cc h)
 asks_same s t (Expect goal) h e = expected_same s t goal e
 asks_same s t (Ask question) h e = asked_same s t question e
+asks_same s t play h e = absurd (cc h)
 
 -- ---- where a schedule stands without such lines
 
@@ -86,32 +64,17 @@ same_played s t lags None is =
 played_same : (s t : Standing) → Lags s t → played_of t ≡ played_of s
 played_same s t lags = same_played s t lags s.played refl
 
-never : (P : Type 0) (p : Played) → Some p ≡ None → P
-never P p h = absurd (cc h)
-
-same_world : (r : Result Played LineFault) (p q : Played) → r ≡ Ok p → Some p ≡ Some q → r ≡ Ok q
-same_world r p q is h =
-    let same : p ≡ q = cc h in
-    is ∙ ap Ok same
-
-made_now : (s t : Standing) (p q : Played) → Lags s t → Some q ≡ Some p → played_of (record t { played = Some q }) ≡ Ok p
-unfolding played_of
-made_now s t p q lags h = cc h
-
 -- both go on to this world
 lags_on : (s t : Standing) (q : Played) → Lags s t → Lags (record s { played = Some q }) (record t { played = Some q })
-lags_on s t q lags = record {
-  heading = lags.heading;
-  played = λ p is. made_now s t p q lags is;
-  none = λ is. is;
-}
+unfolding played_of
+lags_on s t q lags = record { heading = lags.heading; played = λ p is. cc is; none = λ is. is }
 
 -- the one without such a line stays
 lags_still : (s t : Standing) (p : Played) → Lags s t → played_of s ≡ Ok p → Lags (record s { played = Some p }) t
 lags_still s t p lags is = record {
   heading = lags.heading;
-  played = λ q same. same_world (played_of t) p q (played_same s t lags ∙ is) same;
-  none = λ same. never (t.played ≡ None) p same;
+  played = λ q same. let own : p ≡ q = cc same in played_same s t lags ∙ is ∙ ap Ok own;
+  none = λ same. absurd (cc same);
 }
 
 -- ---- a line
@@ -138,10 +101,6 @@ not_made : (o : Option Played) → is_some o ≡ false → o ≡ None
 not_made None h = refl
 not_made (Some p) h = absurd (cc h)
 
-never_made : (P : Type 0) (o : Option Played) (p : Played) → is_some o ≡ false → o ≡ Some p → P
-never_made P None p h is = absurd (cc is)
-never_made P (Some q) p h is = absurd (cc h)
-
 headed_on : (s t u : Standing) (given : GivenNumber) (o : Option Heading) → Lags s t → given_in s.heading given ≡ o →
     headed s o ≡ Ok u → IsTaken u (explained t (Given given) (taken t (Given given)))
 headed_on s t u given None lags is h = absurd (cc h)
@@ -157,7 +116,7 @@ headed_on s t u given (Some heading) lags is h =
       on = ap (explained t (Given given)) on;
       lags = subst (λ v. Lags v after) (sym free.1) (record {
         heading = refl;
-        played = λ p there. never_made (played_of after ≡ Ok p) s.played p free.0 there;
+        played = λ p there. absurd (cc (sym free.0 ∙ ap (λ (o : Option Played). is_some o) there));
         none = λ _. none;
       });
     }

@@ -1,7 +1,6 @@
 -- Where walks end that are made until a goal.
 use Rattle.std.proofs.Common.{◌≡◌, ◌⊎◌, inl, inr, ◌<◌, ◌≤◌, ◌+◌, ◌-◌, ℕ, zero, suc, Bool, true, false, List, ◌++◌, refl, ap, sym, ◌∙◌}
 use Rattle.std.proofs.Common.{subst, append-nil, append_assoc, arith}
-use Rattle.std.proofs.Math.Nat.{eq-or-lt_of_le}
 use Rattle.std.specs.Prelude.{◌%◌, ◌==◌, if◌then◌else◌, Option, Some, None}
 use Rattle.ct_names.specs.Prefix.{IsPrefix}
 use Rattle.ct_model.specs.Rehearsal.{Rehearsal}
@@ -15,6 +14,7 @@ use Rattle.ct_walk.specs.Walking.{Walk, after_chance, after_script, after_turn, 
 use Rattle.ct_walk.specs.Walking.{is_struck, made_by, may_change, most_turns, start, turned, walked, walked_for, workers}
 use Rattle.ct_walk.specs.declared.options.WalkOptions.{WalkOptions}
 use Rattle.ct_laws.specs.Untils.{IsFirstTurn, IsUntil, ShowsNowhere, after_turns, record_at}
+use Rattle.ct_laws.proofs.Cases.{fails_from}
 use Rattle.ct_laws.proofs.Drawing.{turn_begins}
 
 -- ---- what a walk is made until is no part of its turns
@@ -122,17 +122,9 @@ ends_now o g made more v is shown = record {
 }
 
 -- after none of these, the first one neither
-none_from : (o : WalkOptions) (g : Option Goal) (made : ℕ) (P : ℕ → Type 0) → shown_at o g (made + 1) ≡ false →
-    ((turn : ℕ) → made + 1 < turn → P turn → shown_at o g turn ≡ false) → (turn : ℕ) → (made + 1 ≡ turn) ⊎ (made + 1 < turn) → P turn →
-    shown_at o g turn ≡ false
-none_from o g made P here later turn (inl same) high = subst (λ n. shown_at o g n ≡ false) same here
-none_from o g made P here later turn (inr more) high = later turn more high
-
 none_after : (o : WalkOptions) (g : Option Goal) (made : ℕ) (P : ℕ → Type 0) → shown_at o g (made + 1) ≡ false →
     ((turn : ℕ) → made + 1 < turn → P turn → shown_at o g turn ≡ false) → (turn : ℕ) → made < turn → P turn → shown_at o g turn ≡ false
-none_after o g made P here later turn low high =
-    let from : made + 1 ≤ turn = omega (arith, low) in
-    none_from o g made P here later turn (eq-or-lt_of_le from) high
+none_after o g made P here later turn low high = fails_from (shown_at o g) P (made + 1) here later turn (omega (arith, low)) high
 
 ends_later : (o : WalkOptions) (g : Option Goal) (made more : ℕ) (end : Walk) → shown_at o g (made + 1) ≡ false →
     Ends o g (made + 1) more end → Ends o g made (suc more) end
@@ -186,11 +178,15 @@ none_shown : (w : Rehearsal) → is_shown_by None w ≡ false
 unfolding is_shown
 none_shown w = refl
 
-whole_by : (o : WalkOptions) (end : Walk) → Ends o None 0 (most_turns o) end → end.rehearsal ≡ record_at o (most_turns o)
-whole_by o end (inl e) = absurd (cc (sym e.shows ∙ none_shown (record_at o e.turn)))
-whole_by o end (inr e) =
+last_turn : (o : WalkOptions) (g : Option Goal) (end : Walk) → EndsLast o g 0 (most_turns o) end →
+    end.rehearsal ≡ record_at o (most_turns o)
+last_turn o g end e =
     let same : 0 + most_turns o ≡ most_turns o = omega arith in
     ap (λ (w : Walk). w.rehearsal) e.is ∙ ap (record_at o) same
+
+whole_by : (o : WalkOptions) (end : Walk) → Ends o None 0 (most_turns o) end → end.rehearsal ≡ record_at o (most_turns o)
+whole_by o end (inl e) = absurd (cc (sym e.shows ∙ none_shown (record_at o e.turn)))
+whole_by o end (inr e) = last_turn o None end e
 
 pub whole : (o : WalkOptions) → walked o None ≡ record_at o (most_turns o)
 unfolding walked
@@ -213,12 +209,6 @@ first_turn o goal end e =
 nowhere : (o : WalkOptions) (goal : Goal) (end : Walk) → EndsLast o (Some goal) 0 (most_turns o) end → ShowsNowhere o goal
 unfolding is_shown
 nowhere o goal end e turn low high = e.none turn (omega (arith, low)) (omega (arith, high))
-
-last_turn : (o : WalkOptions) (g : Option Goal) (end : Walk) → EndsLast o g 0 (most_turns o) end →
-    end.rehearsal ≡ record_at o (most_turns o)
-last_turn o g end e =
-    let same : 0 + most_turns o ≡ most_turns o = omega arith in
-    ap (λ (w : Walk). w.rehearsal) e.is ∙ ap (record_at o) same
 
 until_by : (o : WalkOptions) (goal : Goal) (end : Walk) → Ends o (Some goal) 0 (most_turns o) end → IsUntil o goal end.rehearsal
 until_by o goal end (inl e) = inl (e.turn, first_turn o goal end e, ap (λ (w : Walk). w.rehearsal) e.is)

@@ -4,15 +4,12 @@ use Rattle.std.proofs.Common.{refl, ap, ap₂, sym, ◌∙◌, subst, append_ass
 use Rattle.std.proofs.Common.{get_or-set_other, get_or-set_same}
 use Rattle.std.proofs.lemmas.Bool.Decides.{nat_tests}
 use Rattle.std.specs.Prelude.{◌==◌, ◌%◌, ◌&&◌, not, if◌then◌else◌, nat_lt, Option, Some, None, is_none, slice_get, unwrap_or}
-use Rattle.ct_names.specs.Group.{IsMember, is_member}
-use Rattle.ct_names.specs.declared.refusal.Refusal.{Refusal}
-use Rattle.ct_names.specs.declared.refusal.Refusal.TheVariants.{Crashed, NoSuchMember}
+use Rattle.ct_names.specs.Group.{IsMember}
 use Rattle.ct_names.proofs.Lists.{found-find}
 use Rattle.ct_model.specs.Actor.{actor}
-use Rattle.ct_model.specs.Cause.{cause, or_else}
+use Rattle.ct_model.specs.Cause.{cause}
 use Rattle.ct_model.specs.Passed.{extended_by, passed}
-use Rattle.ct_model.specs.Rehearsal.{Rehearsal, extended, state_of}
-use Rattle.ct_model.specs.State.{is_crashed}
+use Rattle.ct_model.specs.Rehearsal.{Rehearsal, extended}
 use Rattle.ct_model.specs.declared.step.Step.{Step}
 use Rattle.ct_model.specs.declared.step.Step.TheVariants as step
 use Rattle.ct_world.specs.Driving.{candidates, next_local}
@@ -33,6 +30,7 @@ use Rattle.ct_laws.specs.Tries.{AreTurns, HasTurns, IsAnswer, IsSuspicion, IsTur
 use Rattle.ct_laws.specs.Tries.{entries_in, first_answers, tried_in}
 use Rattle.ct_laws.specs.Tries.WalkTurn.{OfMember, OfScript}
 use Rattle.ct_laws.proofs.Answering.{Follows, answered, answers_first, asks_so, detector_at, follows_by, follows_not, joined_answers}
+use Rattle.ct_laws.proofs.Cases.{if_either}
 use Rattle.ct_laws.proofs.Lasting.{never_lasts, suspects_said, suspects_yes}
 use Rattle.ct_laws.proofs.Passing.{first_passes, none_pass}
 use Rattle.ct_laws.proofs.Rates.{AllRated, always_yes, first_many, never_yes, rated_first, rated_there, still_many, still_rated}
@@ -157,8 +155,7 @@ suspects_so o w p =
 
 no_detector : (ds : List SeededState) (i : ℕ) → i < length ds → slice_get ds i ≡ None → ⊥
 no_detector [] i low h = absurd (omega (arith, low))
-no_detector (d ∷ ds) zero low h = absurd (cc h)
-no_detector (d ∷ ds) (suc i) low h = no_detector ds i (omega (arith, low)) h
+no_detector (d ∷ ds) i low h = grind (arith, no_detector ds)
 
 is_answer : (rate : ℕ) (ds : List SeededState) (i : ℕ) (asks : Option Ask) (d : Option SeededState) → slice_get ds i ≡ d → i < length ds →
     AllRated rate ds → IsAnswer rate (answered asks (answer asks d))
@@ -204,18 +201,12 @@ driven_whole o w p h = h
 set_nothing : (scripts : List (List Disturbance)) (i j : ℕ) → get_or scripts i [] ≡ [] →
     get_or (set scripts i []) j [] ≡ get_or scripts j []
 set_nothing [] i j h = refl
-set_nothing (s ∷ scripts) zero zero h = sym h
-set_nothing (s ∷ scripts) zero (suc j) h = refl
-set_nothing (s ∷ scripts) (suc i) zero h = refl
-set_nothing (s ∷ scripts) (suc i) (suc j) h = set_nothing scripts i j h
+set_nothing (s ∷ scripts) i j h = grind (arith, set_nothing scripts)
 
 script_there : (scripts : List (List Disturbance)) (i : ℕ) (e : Disturbance) (more : List Disturbance) → get_or scripts i [] ≡ e ∷ more →
     i < length scripts
 script_there [] i e more h = absurd (cc h)
-script_there (s ∷ scripts) zero e more h = omega arith
-script_there (s ∷ scripts) (suc i) e more h =
-    let rest : i < length scripts = script_there scripts i e more h in
-    omega (arith, rest)
+script_there (s ∷ scripts) i e more h = grind (arith, script_there scripts)
 
 set_rest : (scripts : List (List Disturbance)) (i j : ℕ) (e : Disturbance) (more : List Disturbance) (b : Bool) → (j == i) ≡ b →
     get_or scripts i [] ≡ e ∷ more → (if b then e ∷ [] else []) ++ get_or (set scripts i more) j [] ≡ get_or scripts j []
@@ -249,13 +240,9 @@ entered_by o w i (e ∷ more) is = inl (record {
 
 -- ---- any turn
 
-if_setting : (b : Bool) (w : Rehearsal) (step : Step) → (if b then extended w step else w).setting ≡ w.setting
-if_setting true w step = refl
-if_setting false w step = refl
-
 try_setting : (w : Rehearsal) (tries : Option Step) → (after_try w tries).setting ≡ w.setting
 try_setting w None = refl
-try_setting w (Some step) = if_setting (is_none (cause w step)) w step
+try_setting w (Some step) = if_either (λ (v : Rehearsal). v.setting ≡ w.setting) (is_none (cause w step)) (extended w step) w refl refl
 
 next_setting : (o : WalkOptions) (w v : Walk) → IsNext o w v → v.rehearsal.setting ≡ w.rehearsal.setting
 next_setting o w v (inl one) = ap (λ (r : Rehearsal). r.setting) one.is ∙ try_setting w.rehearsal (tried_in w.rehearsal one.turn)
@@ -354,15 +341,7 @@ drawn_on o w ready =
     let made = made_on o v (next_word w.draws % workers o w) (same_ready o w v aside ready.whole ready) in
     record { next = same_next o w v (made_by o v (next_word w.draws % workers o w)) aside made.next; ready = made.ready }
 
-if_on : (o : WalkOptions) (b : Bool) (w u v : Walk) → HasTurned o w u → HasTurned o w v → HasTurned o w (if b then u else v)
-if_on o true w u v h k = h
-if_on o false w u v h k = k
-
 -- ---- what comes before a turn
-
-aside_if : (b : Bool) (w u v : Walk) → IsAside w u → IsAside w v → IsAside w (if b then u else v)
-aside_if true w u v h k = h
-aside_if false w u v h k = k
 
 changed_aside : (w : Walk) → IsAside w (changed_now w)
 unfolding changed_now
@@ -370,9 +349,9 @@ changed_aside w =
     let v = record w { draws = after_word w.draws } in
     let cuts = record v { cut = next_word v.draws % 65536; cuts = v.cuts - 1; draws = after_word v.draws } in
     let same : IsAside w w = record { rehearsal = refl; detectors = refl; scripts = refl } in
-    aside_if (may_change w) w (if is_rare (next_word w.draws) then changed v else v) w
-    (aside_if (is_rare (next_word w.draws)) w (changed v) v
-    (aside_if (v.cut == 0) w cuts (record v { cut = 0 }) (record { rehearsal = refl; detectors = refl; scripts = refl })
+    if_either (IsAside w) (may_change w) (if is_rare (next_word w.draws) then changed v else v) w
+    (if_either (IsAside w) (is_rare (next_word w.draws)) (changed v) v
+    (if_either (IsAside w) (v.cut == 0) cuts (record v { cut = 0 }) (record { rehearsal = refl; detectors = refl; scripts = refl })
     (record { rehearsal = refl; detectors = refl; scripts = refl }))
     (record { rehearsal = refl; detectors = refl; scripts = refl }))
     same
@@ -380,7 +359,7 @@ changed_aside w =
 chance_aside : (w : Walk) → IsAside w (after_chance w)
 unfolding after_chance
 chance_aside w =
-    aside_if (has_left w 4) w (record w { draws = after_word w.draws }) w
+    if_either (IsAside w) (has_left w 4) (record w { draws = after_word w.draws }) w
     (record { rehearsal = refl; detectors = refl; scripts = refl }) (record { rehearsal = refl; detectors = refl; scripts = refl })
 
 aside_on : (u v w : Walk) → IsAside u v → IsAside v w → IsAside u w
@@ -394,24 +373,16 @@ before_aside : (w : Walk) → IsAside w (after_chance (changed_now w))
 before_aside w = aside_on w (changed_now w) (after_chance (changed_now w)) (changed_aside w) (chance_aside (changed_now w))
 
 -- a group that is not to be cut stays whole
-if_not : {A : Type 0} (b : Bool) (x y : A) → b ≡ false → (if b then x else y) ≡ y
-if_not true x y h = absurd (cc)
-if_not false x y h = refl
-
 not_changed : (w : Walk) → IsUncut w → changed_now w ≡ w
 unfolding changed_now
 not_changed w h =
     let v = record w { draws = after_word w.draws } in
-    if_not (may_change w) (if is_rare (next_word w.draws) then changed v else v) w
+    ap (λ b. if b then (if is_rare (next_word w.draws) then changed v else v) else w)
     (ap₂ (λ cut cuts. not (cut == 0 && cuts == 0)) h.1 h.0)
-
-uncut_if : (b : Bool) (w v : Walk) → IsUncut w → IsUncut v → IsUncut (if b then w else v)
-uncut_if true w v h k = h
-uncut_if false w v h k = k
 
 chance_uncut : (w : Walk) → IsUncut w → IsUncut (after_chance w)
 unfolding after_chance
-chance_uncut w h = uncut_if (has_left w 4) (record w { draws = after_word w.draws }) w h h
+chance_uncut w h = if_either IsUncut (has_left w 4) (record w { draws = after_word w.draws }) w h h
 
 before_whole : (o : WalkOptions) (w : Walk) → IsWhole o w → IsWhole o (after_chance (changed_now w))
 before_whole o w h none =
@@ -424,16 +395,11 @@ turned_on o number w ready =
     let struck = is_struck (changed_now w) in
     let rest = if is_due o number u then entered u 0 else drawn o u in
     let there = same_ready o w u (before_aside w) (before_whole o w ready.whole) ready in
-    let t = if_on o struck u (entered u 4) rest (entered_on o u 4 there)
-    (if_on o (is_due o number u) u (entered u 0) (drawn o u) (entered_on o u 0 there) (drawn_on o u there)) in
+    let t = if_either (HasTurned o u) struck (entered u 4) rest (entered_on o u 4 there)
+    (if_either (HasTurned o u) (is_due o number u) (entered u 0) (drawn o u) (entered_on o u 0 there) (drawn_on o u there)) in
     record { next = same_next o w u (if struck then entered u 4 else rest) (before_aside w) t.next; ready = t.ready }
 
 -- ---- the walk
-
-if_made : (o : WalkOptions) (b : Bool) (w u v : Walk) (most : ℕ) → IsMade o w u most → IsMade o w v most →
-    IsMade o w (if b then u else v) most
-if_made o true w u v most h k = h
-if_made o false w u v most h k = k
 
 walk_made : (o : WalkOptions) (made more : ℕ) (w : Walk) → IsReady o w → IsMade o w (walked_for o made more w) more
 unfolding walked_for
@@ -442,7 +408,7 @@ walk_made o made (suc more) w ready =
     let v = turned o (made + 1) w in
     let on = turned_on o (made + 1) w ready in
     let rest = walked_for o (made + 1) more v in
-    if_made o (is_shown_by v.until v.rehearsal) w v rest (suc more)
+    if_either (λ x. IsMade o w x (suc more)) (is_shown_by v.until v.rehearsal) v rest
     (next_more o w v v more on.next (none_made o v more))
     (next_more o w v rest more on.next (walk_made o (made + 1) more v on.ready))
 
@@ -478,29 +444,15 @@ asked_next : (o : Option Step) (ask a : Ask) → asked_for o ask ≡ Some a → 
 asked_next (Some (step.Suspect q)) ask a h = (q, refl)
 asked_next _ ask a h = absurd (cc h)
 
-up_by : (a b : Bool) (o : Option Refusal) →
-    is_none (or_else (if not a then Some NoSuchMember else (if b then Some Crashed else None)) o) ≡ true → (a && b) ≡ false
-up_by true true o h = absurd (cc h)
-up_by true false o h = refl
-up_by false b o h = refl
-
 up : (w : Rehearsal) (s : Step) → is_none (cause w s) ≡ true → has_crashed w (actor s) ≡ false
 unfolding cause
-up w s h = up_by (is_member w.setting.members (actor s)) (is_crashed (state_of w) (actor s)) _ h
-
-chosen_so : (p : ℕ) (serial : Option ℕ) (o : Option Step) (crashed : Bool) → o ≡ Some (step.Suspect p) → crashed ≡ false →
-    (if crashed then None else chosen p serial true o) ≡ Some (step.Suspect p)
-chosen_so p serial o true is up = absurd (cc up)
-chosen_so p serial o false is up = ap (chosen p serial true) is
+up w s h = grind arith
 
 tries_it : (w : Rehearsal) (p : ℕ) (serial : Option ℕ) → next_local w p ≡ Some (step.Suspect p) →
     is_none (cause w (step.Suspect p)) ≡ true → tries w p serial true ≡ Some (step.Suspect p)
 unfolding tries
-tries_it w p serial is free = chosen_so p serial (next_local w p) (has_crashed w p) is (up w (step.Suspect p) free)
-
-extends_if : (b : Bool) (w : Rehearsal) (s : Step) → b ≡ true → (if b then extended w s else w) ≡ extended w s
-extends_if true w s h = refl
-extends_if false w s h = absurd (cc h)
+tries_it w p serial is free =
+    ap (λ b. if b then None else chosen p serial true (next_local w p)) (up w (step.Suspect p) free) ∙ ap (chosen p serial true) is
 
 next_is : (w : Rehearsal) (p : ℕ) (serial : Option ℕ) (q : ℕ) → next_local w p ≡ Some (step.Suspect q) →
     after_try w (tries w p serial true) ≡ extended w (step.Suspect p)
@@ -509,7 +461,7 @@ next_is w p serial q is =
     let same : next_local w p ≡ Some (step.Suspect p) = is ∙ ap (λ n. Some (step.Suspect n)) own in
     let free : is_none (cause w (step.Suspect p)) ≡ true =
     (found-find (λ s. is_none (cause w s)) (step.Suspect p) (candidates p (member_of w p)) same).1 in
-    ap (after_try w) (tries_it w p serial same free) ∙ extends_if (is_none (cause w (step.Suspect p))) w (step.Suspect p) free
+    ap (after_try w) (tries_it w p serial same free) ∙ ap (λ b. if b then extended w (step.Suspect p) else w) free
 
 pub each_asks : (w : Rehearsal) (p : ℕ) (serial : Option ℕ) (ask : Ask) → question w p ≡ Some ask →
     after_try w (tries w p serial true) ≡ extended w (step.Suspect p)
