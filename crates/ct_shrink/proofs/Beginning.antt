@@ -1,6 +1,6 @@
 -- The beginnings of a record, one after the other.
-use Rattle.std.proofs.Common.{◌≡◌, Bool, ℕ, ◌+◌, ◌<◌, ◌≤◌, true, false, List, [], ◌∷◌, ◌++◌, length, take, get_or, Ok, ap, sym}
-use Rattle.std.proofs.Common.{◌∙◌, arith, below_more, length-append}
+use Rattle.std.proofs.Common.{◌≡◌, Bool, ℕ, ◌+◌, ◌<◌, ◌≤◌, true, false, List, [], ◌∷◌, ◌++◌, length, take, get_or, Ok, ap, sym, ◌∙◌, arith}
+use Rattle.std.proofs.Common.{below_more, length-append}
 use Rattle.std.proofs.lemmas.List.{take_more}
 use Rattle.ct_model.specs.declared.step.Step.{Step}
 use Rattle.ct_world.specs.Setup.{record_of}
