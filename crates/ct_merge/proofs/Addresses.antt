@@ -45,11 +45,12 @@ use Rattle.ct_merge.specs.declared.address.Kind.TheVariants as kind
 use Rattle.ct_merge.specs.declared.full_name.FullName.{FullName}
 use Rattle.ct_grammar.specs.declared.carried.Carried.{Carried}
 use Rattle.ct_grammar.specs.declared.carried.Carried.TheVariants as carried
-use Rattle.ct_merge.proofs.Barring.{there_named, there_wire}
+use Rattle.ct_merge.proofs.Beyond.{there_named, there_wire}
 use Rattle.ct_merge.proofs.Begun.{receipt_of}
 use Rattle.ct_merge.proofs.Moments.{get_below, get_there}
-use Rattle.ct_merge.proofs.Posting.{from_kept, is_named}
+use Rattle.ct_merge.proofs.Posting.{from_kept}
 use Rattle.ct_merge.proofs.SentOnce.{named_cases, sent_more, stepping}
+use Rattle.ct_merge.proofs.Telling.{receipt_named}
 
 -- ---- addresses
 
@@ -65,11 +66,7 @@ made to from (carried.Dec n k) = record { to = to; from = from; kind = kind.Dec;
 made_back : (to from n k : ℕ) (x : Kind) →
     made to from (thing x n k) ≡ record { to = to; from = from; kind = x; first = n; second = k }
 made_back to from n k kind.Data = refl
-made_back to from n k kind.Est = refl
-made_back to from n k kind.Prop = refl
-made_back to from n k kind.Ack = refl
-made_back to from n k kind.Nack = refl
-made_back to from n k kind.Dec = refl
+made_back to from n k _ = refl
 
 -- a receiver and a name have one address
 one_address : (a b : Address) → a.to ≡ b.to → name_at a ≡ name_at b → a ≡ b
@@ -116,9 +113,7 @@ from_sent w p k name f =
     }
 
 sent_named : (w : Rehearsal) (p k : ℕ) (name : FullName) → IsSentAs w p name k → IsNamed w name.from p name.carried k
-sent_named w p k name s =
-    let f = receipt_of w p k name s.sent s.named in
-    subst (λ c. IsNamed w name.from p c k) f.carried (is_named w name.from p f.wire k f.from)
+sent_named w p k name s = receipt_named w p k name (receipt_of w p k name s.sent s.named)
 
 module _ (w : Rehearsal) (step : Step) (law : IsLawful w) (free : cause w step ≡ None) where
   -- what was sent stays so

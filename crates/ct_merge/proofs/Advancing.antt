@@ -1,23 +1,23 @@
--- Lines of several logs.
-use Rattle.std.proofs.Common.{◌≡◌, ◌≢◌, ℕ, ◌≤◌, ◌&&◌, Bool, true, false, List, [], inl, inr, ap, sym, subst, ◌∙◌, refl, arith}
-use Rattle.std.proofs.Common.{leb-true, nat_le, ◌-◌, take}
-use Rattle.std.specs.Prelude.{filter, slice_index}
+-- Lines of several logs, which may grow.
+use Rattle.std.proofs.Common.{◌≡◌, ◌≢◌, ℕ, ◌≤◌, ◌&&◌, Bool, true, false, List, [], inl, inr, ap, sym, subst, ◌∙◌, refl, arith, leb-true}
+use Rattle.std.proofs.Common.{nat_le, ◌-◌, take, ◌++◌, ◌∷◌, append-nil, length-append}
+use Rattle.std.specs.Prelude.{filter, slice_index, All, OnErr, OnOk, Result, Ok, Err}
 use Rattle.std.specs.Global.{Vec}
 use Rattle.std.specs.List.{AllZip}
+use Rattle.std.proofs.lemmas.Bool.{and_parts, cases_eq}
 use Rattle.std.proofs.lemmas.Bool.Decides.{eqb_tells}
-use Rattle.std.proofs.lemmas.List.{take_all}
+use Rattle.std.proofs.lemmas.List.{take_all, take-append-le}
 use Rattle.ct_names.specs.Group.{is_member}
 use Rattle.ct_model.specs.Rehearsal.{Rehearsal, empty}
 use Rattle.ct_merge.specs.Logs.{IsLog, IsMerge, IsTold, is_own, log_of, moments, own}
-use Rattle.ct_merge.specs.Merging.{IsLater, IsTakenFrom, IsTakenTo, IsWholeTo, LeavesOthers, Taken, count_of}
+use Rattle.ct_merge.specs.Merging.{IsLater, IsTakenFrom, IsTakenTo, IsWholeTo, LeavesOthers, Taken, count_of, Growing, IsBare}
 use Rattle.ct_merge.specs.declared.log_line.LogLine.{LogLine}
-
-first_of : (a b : Bool) → (a && b) ≡ true → a ≡ true
-first_of true b e = refl
-first_of false b e = absurd (cc)
+use Rattle.std.specs.Option.{option_map_or}
+use Rattle.std.proofs.lemmas.List.Elements.{All-get_or}
+use Rattle.std.proofs.lemmas.Option.{slice_get_cases}
 
 pub positive : (n p : ℕ) → is_member n p ≡ true → 1 ≤ p
-positive n p e = leb-true 1 p (first_of (nat_le 1 p) (nat_le p n) e)
+positive n p e = leb-true 1 p (and_parts (nat_le 1 p) (nat_le p n) e).0
 
 taken_as : (old new : Rehearsal) (p : ℕ) (log : List LogLine) (a b : ℕ) → own new p ≡ own old p → b ≡ a → IsTakenTo old p log a →
     IsTakenTo new p log b
@@ -67,3 +67,52 @@ pub all_taken : (logs : List (Vec LogLine)) (t : Taken) → IsTakenFrom logs t �
 all_taken logs t taken whole p member =
     let h : IsTakenTo t.rehearsal p (log_of logs p) (count_of t.counts p) = taken p member in
     subst (λ l. IsLog t.rehearsal p l) (take_all (count_of t.counts p) (log_of logs p) (whole p member)) h.is
+
+-- lines at the end of a log change nothing of what was taken of it
+pub taken_longer : (w : Rehearsal) (p : ℕ) (log more : List LogLine) (rest : List LogLine) (count : ℕ) → more ≡ log ++ rest →
+    IsTakenTo w p log count → IsTakenTo w p more count
+taken_longer w p log more rest count e h =
+    let whole : IsTakenTo w p (log ++ rest) count =
+    record {
+      within = omega (arith, h.within, length-append log rest);
+      is = subst (λ l. IsLog w p l) (sym (take-append-le count log rest h.within)) h.is;
+    } in
+    subst (λ l. IsTakenTo w p l count) (sym e) whole
+
+-- p's log goes on with these lines
+grown_on : (old new : List (Vec LogLine)) (t : Taken) (p : ℕ) (rest : List LogLine) → IsTakenFrom old t →
+    log_of new p ≡ log_of old p ++ rest → ((q : ℕ) → 1 ≤ q → q ≢ p → log_of new q ≡ log_of old q) → IsTakenFrom new t
+grown_on old new t p rest before here others q in_group = elim (cases_eq q p) [
+  | inl same ↦
+      taken_longer t.rehearsal q (log_of old q) (log_of new q) rest (count_of t.counts q)
+      (ap (log_of new) same ∙ here ∙ ap (λ x. log_of old x ++ rest) (sym same)) (before q in_group)
+  | inr other ↦
+      subst (λ l. IsTakenTo t.rehearsal q l (count_of t.counts q))
+      (sym (others q (positive t.rehearsal.setting.members q in_group) other)) (before q in_group)
+]
+
+-- the same, as the line found room or not
+pub grown : {A E : Type 0} (r : Result A E) (old new : List (Vec LogLine)) (t : Taken) (p : ℕ) (line : LogLine) → IsTakenFrom old t →
+    OnOk r (log_of new p ≡ log_of old p ++ line ∷ []) → OnErr r (log_of new p ≡ log_of old p) →
+    ((q : ℕ) → 1 ≤ q → q ≢ p → log_of new q ≡ log_of old q) → IsTakenFrom new t
+grown (Ok x) old new t p line before here kept others = grown_on old new t p (line ∷ []) before here others
+grown (Err e) old new t p line before here kept others = grown_on old new t p [] before (kept ∙ sym (append-nil (log_of old p))) others
+
+-- logs without lines
+pub none_in : (logs : List (Vec LogLine)) → All IsBare logs → (p : ℕ) → log_of logs p ≡ []
+none_in logs bare p = elim (slice_get_cases logs (p - 1)).1 as (λ _. log_of logs p ≡ []) [
+  | inl is ↦
+      ap (λ o. option_map_or (λ log. log.items) o []) is.2
+      ∙ subst IsBare is.3 (All-get_or IsBare logs (p - 1) is.0 is.1 bare)
+  | inr past ↦ ap (λ o. option_map_or (λ (log : Vec LogLine). log.items) o []) past.1
+]
+
+-- the same group and the same logs
+pub same_group : (self m : Growing) (old new : Taken) (logs : List (Vec LogLine)) → IsLater old.rehearsal new.rehearsal →
+    record { setting = old.rehearsal.setting; cells = old.rehearsal.cells; logs = logs } ≡ self →
+    m ≡ record { setting = new.rehearsal.setting; cells = new.rehearsal.cells; logs = logs } → m ≡ self
+same_group self m old new logs group before after =
+    after
+    ∙ ap (λ s. record { setting = s; cells = new.rehearsal.cells; logs = logs }) group.setting
+    ∙ ap (λ c. record { setting = old.rehearsal.setting; cells = c; logs = logs }) group.cells
+    ∙ before

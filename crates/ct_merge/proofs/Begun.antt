@@ -21,7 +21,7 @@ use Rattle.ct_merge.specs.Runs.{IsBegun, IsNamed, IsRun}
 use Rattle.ct_merge.specs.declared.full_name.FullName.{FullName}
 use Rattle.ct_merge.specs.declared.log_act.LogAct.{LogAct}
 use Rattle.ct_merge.specs.declared.log_line.LogLine.{LogLine}
-use Rattle.ct_merge.proofs.SentOnce.{named_once}
+use Rattle.ct_merge.proofs.SentOnce.{one_receipt}
 use Rattle.ct_merge.proofs.Posting.{is_named}
 use Rattle.ct_merge.proofs.Sameness.{Acts, AreSame, like_there, same_deeds}
 use Rattle.ct_merge.proofs.Telling.{IsReceipt, wire_named}
@@ -43,11 +43,7 @@ receipt_of w p k name sent full =
 pub one_name : (w : Rehearsal) → IsRun w → (p j k : ℕ) (name : FullName) → is_sent w p j ≡ true → is_sent w p k ≡ true →
     full_name w j ≡ Some name → full_name w k ≡ Some name → j ≡ k
 one_name w r p j k name sent_j sent_k full_j full_k =
-    let a = receipt_of w p j name sent_j full_j in
-    let b = receipt_of w p k name sent_k full_k in
-    named_once w r name.from p name.carried j k
-    (subst (λ c. IsNamed w name.from p c j) a.carried (is_named w name.from p a.wire j a.from))
-    (subst (λ c. IsNamed w name.from p c k) b.carried (is_named w name.from p b.wire k b.from))
+    one_receipt w r p j k name (receipt_of w p j name sent_j full_j) (receipt_of w p k name sent_k full_k)
 
 -- ---- lines
 

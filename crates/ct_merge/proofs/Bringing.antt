@@ -1,6 +1,6 @@
 -- Envelopes that the network brings once more.
 use Rattle.std.proofs.Common.{◌≡◌, ◌≢◌, ℕ, Bool, true, false, not, ◌==◌, List, [], ◌∷◌, ◌++◌, Option, Some, None, Ok, Err}
-use Rattle.std.proofs.Common.{inr, ap, sym, ◌∙◌, refl, subst, length}
+use Rattle.std.proofs.Common.{arith, inr, ap, sym, ◌∙◌, refl, subst, length}
 use Rattle.std.specs.Prelude.{IfSome}
 use Rattle.ct_names.specs.Group.{is_member}
 use Rattle.ct_names.specs.declared.refusal.Refusal.{Refusal}
@@ -35,24 +35,17 @@ use Rattle.ct_merge.specs.declared.log_line.LogLine.{LogLine}
 use Rattle.ct_merge.specs.declared.own_fault.OwnFault.TheVariants.{Line}
 use Rattle.ct_merge.proofs.Addresses.{sent_kept}
 use Rattle.ct_merge.proofs.Failing.{limit_full}
+use Rattle.ct_merge.proofs.Standing.{refused_so}
 use Rattle.ct_merge.proofs.Stopping.{refused, unless_more}
 
 -- ---- whether it waits
-
-of_cause : (c : Option Refusal) (r : Refusal) → verdict c ≡ Err r → c ≡ Some r
-of_cause None r e = absurd (cc)
-of_cause (Some other) r e =
-    let same : other ≡ r = cc in
-    ap Some same
 
 free_cause : (c : Option Refusal) → verdict c ≡ Ok tt → c ≡ None
 free_cause None e = refl
 free_cause (Some r) e = absurd (cc)
 
 not_absent : (a b : Bool) → first_fault (at NoSuchMember a ∷ at Crashed b ∷ []) ≡ Some NotWaiting → ⊥
-not_absent true b e = absurd (cc)
-not_absent false true e = absurd (cc)
-not_absent false false e = absurd (cc)
+not_absent a b e = grind arith
 
 -- what waits is not refused for that
 waits_free : (w : Rehearsal) (p k : ℕ) → is_waiting w p k ≡ true → cause w (Receive p k) ≡ Some NotWaiting → ⊥
@@ -74,7 +67,7 @@ tested_away w p k r e is = by_test (is_waiting w p k) refl
   where
     by_test : (b : Bool) → is_waiting w p k ≡ b → is_waiting w p k ≡ false
     by_test false waits = waits
-    by_test true waits = absurd (waits_free w p k waits (of_cause (cause w (Receive p k)) r e ∙ ap Some is))
+    by_test true waits = absurd (waits_free w p k waits (refused_so (cause w (Receive p k)) r e ∙ ap Some is))
 
 pub tested_other : (w : Rehearsal) (p k : ℕ) (r : Refusal) → verdict (cause w (Receive p k)) ≡ Err r → r ≢ NotWaiting → IsPresent w p →
     is_waiting w p k ≡ true
@@ -84,7 +77,7 @@ tested_other w p k r e other present = by_test (is_waiting w p k) refl
     by_test true waits = waits
     by_test false waits =
         let same : r ≡ NotWaiting = some-same r NotWaiting
-        (sym (of_cause (cause w (Receive p k)) r e) ∙ cause-receive-away w p k present waits) in
+        (sym (refused_so (cause w (Receive p k)) r e) ∙ cause-receive-away w p k present waits) in
         absurd (other same)
 
 pub tested_free : (w : Rehearsal) (p k : ℕ) → verdict (cause w (Receive p k)) ≡ Ok tt → is_waiting w p k ≡ true

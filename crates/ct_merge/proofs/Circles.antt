@@ -22,8 +22,7 @@ use Rattle.ct_merge.specs.declared.verdict.Why.{Why}
 use Rattle.ct_merge.specs.declared.verdict.Why.TheVariants.{Circle, Ended, Fault, Never}
 use Rattle.ct_merge.proofs.Coming.{never_comes}
 use Rattle.ct_merge.proofs.Failing.{fault_none}
-use Rattle.ct_merge.proofs.Held.{AreHeld, held_none, one_held}
-use Rattle.ct_merge.proofs.Waiting.{not_there}
+use Rattle.ct_merge.proofs.Held.{AreHeld, held_none, not_there, one_held}
 
 module _ (logs : List (Vec LogLine)) (t : Taken) where
   -- ---- what never comes

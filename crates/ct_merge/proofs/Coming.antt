@@ -57,45 +57,29 @@ one_submitted : (x : Step) (b : Bool) → length (if b then x ∷ [] else []) �
 one_submitted x true = refl
 one_submitted x false = refl
 
-none_submitted : (b : Bool) (n : ℕ) → n ≡ 0 → 0 ≡ (if b then n else 0)
-none_submitted true n e = sym e
-none_submitted false n e = refl
-
-turn_submits : (m : Member) (turn : Standing → Option Turn) (o : Outcome) → round_row m turn ≡ Some o → (b : Bool) →
-    0 ≡ (if b then length o.submitted else 0)
-turn_submits m turn o e b =
-    none_submitted b (length o.submitted) (sym (ap (λ (o : Outcome). length o.submitted) (round_row-is m turn o e).gives))
-
-line_submits : (g : State) (p : ℕ) (m : Member) (k : ℕ) (o : Outcome) → line_row g p m k ≡ Some o → (b : Bool) →
-    0 ≡ (if b then length o.submitted else 0)
-line_submits g p m k o e b =
-    none_submitted b (length o.submitted)
-    (sym (ap (λ (o : Outcome). length o.submitted) (made-map (λ (w : Wire). plain m Nobody) (wire_to g p k) o e).gives))
+silent : (x o : Outcome) (b : Bool) → x ≡ o → length x.submitted ≡ 0 → 0 ≡ (if b then length o.submitted else 0)
+silent x o true e none = sym none ∙ ap (λ (o : Outcome). length o.submitted) e
+silent x o false e none = refl
 
 submits : (s : Setting) (g : State) (p : ℕ) (m : Member) (step : Step) (o : Outcome) → row s g p m step ≡ Some o → (q : ℕ) →
     length (filter (is_submission q) (step ∷ [])) ≡ (if actor step == q then length o.submitted else 0)
 submits s g p m (step.Submit a c) o e q =
     subst (λ (o : Outcome). length (filter (is_submission q) (step.Submit a c ∷ [])) ≡ (if a == q then length o.submitted else 0))
     (when-is (is_good c) (submit g p m c) o e).1 (one_submitted (step.Submit a c) (a == q))
-submits s g p m (step.Receive a k) o e q =
-    none_submitted (a == q) (length o.submitted)
-    (sym (ap (λ (o : Outcome). length o.submitted) (made-map (receive s p m) (wire_to g p k) o e).gives))
-submits s g p m (step.Begin a) o e q =
-    none_submitted (a == q) (length o.submitted) (sym (ap (λ (o : Outcome). length o.submitted) (begin_row-is s p m o e).1))
-submits s g p m (step.Enter a) o e q = turn_submits m (turn_at s.members p m moves.Enter) o e (a == q)
-submits s g p m (step.Choose a from) o e q = turn_submits m (turn_at s.members p m (moves.Choose from)) o e (a == q)
-submits s g p m (step.Adopt a) o e q = turn_submits m (turn_at s.members p m moves.Adopt) o e (a == q)
-submits s g p m (step.Suspect a) o e q = turn_submits m (turn_at s.members p m moves.Suspect) o e (a == q)
-submits s g p m (step.Conclude a) o e q = turn_submits m (turn_at s.members p m moves.Conclude) o e (a == q)
-submits s g p m (step.Deliver a) o e q =
-    none_submitted (a == q) (length o.submitted) (sym (ap (λ (o : Outcome). length o.submitted) (deliver_row-is m o e).1))
-submits s g p m (step.Follow a) o e q =
-    none_submitted (a == q) (length o.submitted) (sym (ap (λ (o : Outcome). length o.submitted) (follow_row-is m o e).1))
-submits s g p m (step.Crash a) o e q =
-    none_submitted (a == q) (length o.submitted) (sym (ap (λ (o : Outcome). length o.submitted) (some-same (crash m) o e)))
-submits s g p m (step.Postpone a k) o e q = line_submits g p m k o e (a == q)
-submits s g p m (step.Lose a k) o e q = line_submits g p m k o e (a == q)
-submits s g p m (step.Repeat a k) o e q = line_submits g p m k o e (a == q)
+submits s g p m (step.Receive a k) o e q = silent _ o (a == q) (made-map (receive s p m) (wire_to g p k) o e).gives refl
+submits s g p m (step.Begin a) o e q = silent _ o (a == q) (begin_row-is s p m o e).1 refl
+submits s g p m (step.Enter a) o e q = silent _ o (a == q) (round_row-is m (turn_at s.members p m moves.Enter) o e).gives refl
+submits s g p m (step.Choose a from) o e q =
+    silent _ o (a == q) (round_row-is m (turn_at s.members p m (moves.Choose from)) o e).gives refl
+submits s g p m (step.Adopt a) o e q = silent _ o (a == q) (round_row-is m (turn_at s.members p m moves.Adopt) o e).gives refl
+submits s g p m (step.Suspect a) o e q = silent _ o (a == q) (round_row-is m (turn_at s.members p m moves.Suspect) o e).gives refl
+submits s g p m (step.Conclude a) o e q = silent _ o (a == q) (round_row-is m (turn_at s.members p m moves.Conclude) o e).gives refl
+submits s g p m (step.Deliver a) o e q = silent _ o (a == q) (deliver_row-is m o e).1 refl
+submits s g p m (step.Follow a) o e q = silent _ o (a == q) (follow_row-is m o e).1 refl
+submits s g p m (step.Crash a) o e q = silent _ o (a == q) (some-same (crash m) o e) refl
+submits s g p m (step.Postpone a k) o e q = silent _ o (a == q) (made-map (λ (w : Wire). plain m Nobody) (wire_to g p k) o e).gives refl
+submits s g p m (step.Lose a k) o e q = silent _ o (a == q) (made-map (λ (w : Wire). plain m Nobody) (wire_to g p k) o e).gives refl
+submits s g p m (step.Repeat a k) o e q = silent _ o (a == q) (made-map (λ (w : Wire). plain m Nobody) (wire_to g p k) o e).gives refl
 
 submitted_more : (w : Rehearsal) (step : Step) (h : State) → IsRun w → next w.setting (state_of w) step ≡ Some h →
     ((p : ℕ) → submitted w p ≡ submissions (state_of w).submitted p) → (p : ℕ) →
@@ -150,28 +134,19 @@ received_is w r p isp c e =
 
 message_got : (m : Member) (o n : ℕ) (x : Wire) → IsIn x m.got → passes (bare x) (Data o n) ≡ true → HasMessage m o n
 message_got m o n (wire.Data y) there e =
-    let two = and_parts (y.origin == o) (y.number == n) e in
-    record { message = y; is_in = there; origin = same_number y.origin o two.0; number = same_number y.number n two.1 }
+    record { message = y; is_in = there; origin = grind (arith, nat_tests); number = grind (arith, nat_tests) }
 message_got m o n _ there e = absurd (cc)
 
 proposal_got : (m : Member) (k r : ℕ) (x : Wire) → IsIn x m.got → passes (bare x) (Prop k r) ≡ true → HasProposal m k r
 proposal_got m k r (wire.Prop i s v) there e =
-    let two = and_parts (i == k) (s == r) e in
-    record {
-      value = v;
-      is_in = subst (λ z. IsIn (wire.Prop z r v) m.got) (same_number i k two.0)
-          (subst (λ z. IsIn (wire.Prop i z v) m.got) (same_number s r two.1) there);
-    }
+    let same : wire.Prop i s v ≡ wire.Prop k r v = grind (arith, nat_tests) in
+    record { value = v; is_in = subst (λ z. IsIn z m.got) same there }
 proposal_got m k r _ there e = absurd (cc)
 
 decision_got : (m : Member) (k r : ℕ) (x : Wire) → IsIn x m.got → passes (bare x) (Dec k r) ≡ true → HasDecision m k r
 decision_got m k r (wire.Dec i s v) there e =
-    let two = and_parts (i == k) (s == r) e in
-    record {
-      value = v;
-      is_in = subst (λ z. IsIn (wire.Dec z r v) m.got) (same_number i k two.0)
-          (subst (λ z. IsIn (wire.Dec i z v) m.got) (same_number s r two.1) there);
-    }
+    let same : wire.Dec i s v ≡ wire.Dec k r v = grind (arith, nat_tests) in
+    record { value = v; is_in = subst (λ z. IsIn z m.got) same there }
 decision_got m k r _ there e = absurd (cc)
 
 -- ---- what is before it
@@ -404,11 +379,7 @@ module _ (w : Rehearsal) (q : ℕ) (isq : IsMember w.setting.members q) where
 
 of_group : (n : ℕ) (c : Carried) → IsOfGroup n c → is_of_group n c ≡ true
 of_group n (Data o i) h = grind (arith, nat_tests)
-of_group n (Est k r) h = grind (arith, nat_tests)
-of_group n (Prop k r) h = grind (arith, nat_tests)
-of_group n (Ack k r) h = grind (arith, nat_tests)
-of_group n (Nack k r) h = grind (arith, nat_tests)
-of_group n (Dec k r) h = grind (arith, nat_tests)
+of_group n _ h = grind (arith, nat_tests)
 
 -- what may not come any more its sender never sends
 pub never_comes : (w : Rehearsal) → IsRun w → (p : ℕ) (name : FullName) → may_come w p name ≡ false → IsDone w name.from p name.carried

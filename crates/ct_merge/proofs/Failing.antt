@@ -44,30 +44,15 @@ use Rattle.ct_merge.specs.declared.verdict.Why.TheVariants.{Fault}
 use Rattle.ct_merge.proofs.Held.{one_held}
 use Rattle.ct_merge.proofs.Local.{acts_of}
 use Rattle.ct_merge.proofs.Posting.{is_named}
-use Rattle.ct_merge.proofs.SentOnce.{named_once}
-use Rattle.ct_merge.proofs.Telling.{IsReceipt, IsToldStep, received_wire, told_step}
+use Rattle.ct_merge.proofs.SentOnce.{one_receipt}
+use Rattle.ct_merge.proofs.Telling.{IsReceipt, IsToldStep, receipt_by, told_step}
 
 -- ---- the step of a line
 
 -- a line tells of one step, where that is enabled
 same_act : (p k l : ℕ) (act : LogAct) → ((name : FullName) → act ≡ Receive name → k ≡ l) → step_of p k act ≡ step_of p l act
 same_act p k l (Receive name) same = ap (λ i. step.Receive p i) (same name refl)
-same_act p k l (Submit c) same = refl
-same_act p k l Begin same = refl
-same_act p k l Enter same = refl
-same_act p k l (Choose from) same = refl
-same_act p k l Adopt same = refl
-same_act p k l Suspect same = refl
-same_act p k l Conclude same = refl
-same_act p k l Deliver same = refl
-same_act p k l Follow same = refl
-same_act p k l Crash same = refl
-
-receipt_by : (w : Rehearsal) (p : ℕ) (step : Step) (act : LogAct) (h : State) (x : IsToldStep w p step act) →
-    next w.setting (state_of w) step ≡ Some h → (name : FullName) → act ≡ Receive name → IsReceipt w p x.serial name
-receipt_by w p step act h x e name is =
-    received_wire w p x.serial name h (x.name name is)
-    (subst (λ z. next w.setting (state_of w) z ≡ Some h) (x.is ∙ ap (λ z. step_of p x.serial z) is) e)
+same_act p k l _ same = refl
 
 there_by : (w : Rehearsal) (p k : ℕ) (name : FullName) → IsReceipt w p k name → IsThere w p name
 there_by w p k name f = record { serial = k; wire = f.wire; from = f.from; carried = f.carried }
@@ -76,11 +61,7 @@ one_step : (w : Rehearsal) → IsRun w → (p : ℕ) (a b : Step) (act : LogAct)
     next w.setting (state_of w) a ≡ Some g → next w.setting (state_of w) b ≡ Some h → a ≡ b
 one_step w r p a b act g h x y e f =
     x.is ∙ (same_act p x.serial y.serial act (λ name is.
-    let z = receipt_by w p a act g x e name is in
-    let v = receipt_by w p b act h y f name is in
-    named_once w r name.from p name.carried x.serial y.serial
-    (subst (λ c. IsNamed w name.from p c x.serial) z.carried (is_named w name.from p z.wire x.serial z.from))
-    (subst (λ c. IsNamed w name.from p c y.serial) v.carried (is_named w name.from p v.wire y.serial v.from)))
+    one_receipt w r p x.serial y.serial name (receipt_by w p a act g x e name is) (receipt_by w p b act h y f name is))
     ∙ sym y.is)
 
 -- ---- refusals

@@ -40,28 +40,17 @@ module _ (logs : List (Vec LogLine)) (old new : Taken) (p count : ℕ) (f : OwnF
         run = tt;
       }
 
-  stuck_there : new.last ≡ p → UnlessShort (is_short (line_fault_of f)) (IsStuckIn old.rehearsal p (log_of logs p) count f) →
-      UnlessShort (is_short (line_fault_of f)) (IsStuckIn old.rehearsal new.last (log_of logs new.last) count f)
-  stuck_there last h =
-      subst (λ q. UnlessShort (is_short (line_fault_of f)) (IsStuckIn old.rehearsal q (log_of logs q) count f)) (sym last) h
-
-  counted : new.last ≡ p → count_of new.counts p ≡ count → count_of new.counts new.last ≡ count
-  counted last here = subst (λ q. count_of new.counts q ≡ count) (sym last) here
-
-  counted_besides : new.last ≡ p → ((q : ℕ) → 1 ≤ q → q ≢ p → count_of new.counts q ≡ count_of old.counts q) →
-      (q : ℕ) → 1 ≤ q → q ≢ new.last → count_of new.counts q ≡ count_of old.counts q
-  counted_besides last elsewhere =
-      subst (λ x. (q : ℕ) → 1 ≤ q → q ≢ x → count_of new.counts q ≡ count_of old.counts q) (sym last) elsewhere
-
   -- the line at which p's log stops
   pub halted : is_member old.rehearsal.setting.members p ≡ true → IsTakenFrom logs old → new.last ≡ p → count_of new.counts p ≡ count →
       ((q : ℕ) → 1 ≤ q → q ≢ p → count_of new.counts q ≡ count_of old.counts q) →
       UnlessShort (is_short (line_fault_of f)) (IsStuckIn old.rehearsal p (log_of logs p) count f) → IsHalt old.rehearsal logs new f
-  halted member before last here elsewhere h =
+  halted member before last =
+      subst (λ q. count_of new.counts q ≡ count → ((x : ℕ) → 1 ≤ x → x ≢ q → count_of new.counts x ≡ count_of old.counts x) →
+      UnlessShort (is_short (line_fault_of f)) (IsStuckIn old.rehearsal q (log_of logs q) count f) → IsHalt old.rehearsal logs new f) last
+      (λ here elsewhere h.
       let there = subst (λ q. is_member old.rehearsal.setting.members q ≡ true) (sym last) member in
       unless_more (is_short (line_fault_of f)) (IsStuckIn old.rehearsal new.last (log_of logs new.last) count f)
-      (IsCulprit old.rehearsal.setting old.rehearsal.cells logs (halted_at new f))
-      (culprit there before (counted last here) (counted_besides last elsewhere)) (stuck_there last h)
+      (IsCulprit old.rehearsal.setting old.rehearsal.cells logs (halted_at new f)) (culprit there before here elsewhere) h)
 
 -- behind more steps
 pub halted_on : (old mid : Rehearsal) (logs : List (Vec LogLine)) (t : Taken) (f : OwnFault) → IsLater old mid → IsHalt mid logs t f →

@@ -1,40 +1,69 @@
--- Logs with lines that are never taken have no merge, whatever lines they go on with.
-use Rattle.std.proofs.Common.{◌≡◌, ℕ, ◌+◌, ◌<◌, ◌≤◌, ◌==◌, Bool, true, List, Some, length, take}
-use Rattle.std.proofs.Common.{refl, sym, ap, ◌∙◌, subst, arith, length-append}
-use Rattle.std.specs.Prelude.{slice_get}
+-- Logs of which none goes on, or with lines that are never taken, have no merge.
+use Rattle.std.proofs.Common.{◌≡◌, ℕ, ◌<◌, true, List, Some, length, take, refl, sym, ap, ◌∙◌, subst, arith, ◌+◌, ◌≤◌, ◌==◌, Bool}
+use Rattle.std.proofs.Common.{length-append}
+use Rattle.std.specs.Prelude.{is_some, slice_get}
 use Rattle.std.specs.Global.{Vec}
-use Rattle.std.proofs.lemmas.List.{take-append-le}
+use Rattle.std.proofs.lemmas.List.{length-take-le, take-append-le}
 use Rattle.ct_names.specs.Group.{IsMember, is_member}
+use Rattle.ct_model.specs.Rehearsal.{Rehearsal}
 use Rattle.ct_model.specs.Setting.{Setting}
 use Rattle.ct_model.proofs.Basics.Groups.{member_is}
+use Rattle.ct_merge.specs.Barred.{IsBarred, IsThere}
+use Rattle.ct_merge.specs.Barred.IsBarred.{waits}
+use Rattle.ct_merge.specs.Logs.{IsTold, log_of, own, IsLog}
+use Rattle.ct_merge.specs.Merging.{IsTakenFrom, IsTakenTo, Taken, count_of}
+use Rattle.ct_merge.specs.Runs.{IsBegun, IsRun}
+use Rattle.ct_merge.specs.Waits.{AllWait, HasNoMerge, IsUnsent, SomeWaits, AllBegin, NeverMerges}
+use Rattle.ct_merge.specs.declared.full_name.FullName.{FullName}
+use Rattle.ct_merge.specs.declared.log_line.LogLine.{LogLine}
+use Rattle.ct_merge.proofs.Beyond.{no_merge, there_named, there_wire}
+use Rattle.ct_merge.proofs.Begun.{is_member_of, zip_length}
 use Rattle.ct_model.proofs.Basics.Options.{some-same}
 use Rattle.ct_model.proofs.Basics.Tests.{number_same, same_number}
 use Rattle.ct_model.proofs.Record.Senders.{get-front}
-use Rattle.ct_merge.specs.Barred.{IsBarred}
-use Rattle.ct_merge.specs.Logs.{IsLog, log_of, own}
-use Rattle.ct_merge.specs.Merging.{IsTakenFrom, IsTakenTo, Taken, count_of}
-use Rattle.ct_merge.specs.Runs.{IsRun}
 use Rattle.ct_merge.specs.Stops.{IsNext}
-use Rattle.ct_merge.specs.Waits.{AllBegin, NeverMerges}
-use Rattle.ct_merge.specs.declared.log_line.LogLine.{LogLine}
-use Rattle.ct_merge.proofs.Begun.{is_member_of}
-use Rattle.ct_merge.proofs.Beyond.{no_merge}
+use Rattle.ct_merge.proofs.Advancing.{taken_longer}
 use Rattle.ct_merge.proofs.Moments.{get_below}
-use Rattle.ct_merge.proofs.Waiting.{as_many, taken_begun}
+
+-- what was not sent is not there
+pub not_there : (w : Rehearsal) (p : ℕ) (name : FullName) → IsUnsent w p name → IsThere w p name → ⊥
+not_there w p name unsent f =
+    unsent f.serial (ap is_some (there_wire w p name.from f.serial f.wire f.from))
+    (there_named w p name.from f.serial f.wire name f.from f.carried refl)
+
+-- as many own steps as lines were taken
+pub as_many : (logs : List (Vec LogLine)) (t : Taken) (p : ℕ) → IsTakenFrom logs t →
+    is_member t.rehearsal.setting.members p ≡ true → length (own t.rehearsal p) ≡ count_of t.counts p
+as_many logs t p taken isp =
+    let f : IsTakenTo t.rehearsal p (log_of logs p) (count_of t.counts p) = taken p isp in
+    zip_length IsTold (own t.rehearsal p) (take (count_of t.counts p) (log_of logs p)) f.is
+    ∙ length-take-le (count_of t.counts p) (log_of logs p) f.within
+
+pub taken_begun : (logs : List (Vec LogLine)) (t : Taken) → IsTakenFrom logs t → IsBegun t.rehearsal logs
+taken_begun logs t taken p isp = (count_of t.counts p, taken p isp)
+
+pub waiting_none : (logs : List (Vec LogLine)) (t : Taken) → IsRun t.rehearsal → IsTakenFrom logs t → AllWait logs t → SomeWaits logs t →
+    HasNoMerge t.rehearsal.setting logs
+waiting_none logs t u taken all some w r group merge =
+    let p : ℕ = some.member in
+    let count = as_many logs t p taken some.in_group in
+    let more : count_of t.counts p < length (log_of logs p) = some.more in
+    no_merge logs t.rehearsal w (λ q. true) u r (sym group) (taken_begun logs t taken)
+    (λ q stay isq line next. barred q isq line next) p refl
+    (subst (λ (s : Setting). IsMember s.members p) (sym group) (member_is t.rehearsal.setting.members p some.in_group))
+    (omega arith) merge
+  where
+    barred : (q : ℕ) → IsMember t.rehearsal.setting.members q → (line : LogLine) →
+        slice_get (log_of logs q) (length (own t.rehearsal q)) ≡ Some line → IsBarred t.rehearsal (λ q. true) q line
+    barred q isq line next =
+        let test = is_member_of t.rehearsal.setting.members q isq in
+        let f = all q test line (ap (λ i. slice_get (log_of logs q) i) (sym (as_many logs t q taken test)) ∙ next) in
+        waits f.name f.act (not_there t.rehearsal q f.name f.unsent) refl
 
 -- what was taken of logs was taken of those that begin with them
 taken_more : (logs more : List (Vec LogLine)) (t : Taken) → AllBegin logs more → IsTakenFrom logs t → IsTakenFrom more t
 taken_more logs more t begins taken p isp =
-    let f : IsTakenTo t.rehearsal p (log_of logs p) (count_of t.counts p) = taken p isp in
-    let on = begins p in
-    let low : count_of t.counts p ≤ length (log_of logs p) = f.within in
-    let long : length (log_of more p) ≡ length (log_of logs p) + length on.0 =
-    sym (ap length on.1) ∙ length-append (log_of logs p) on.0 in
-    record {
-      within = omega arith;
-      is = subst (λ l. IsLog t.rehearsal p l)
-          (sym (take-append-le (count_of t.counts p) (log_of logs p) on.0 low) ∙ ap (take (count_of t.counts p)) on.1) f.is;
-    }
+    taken_longer t.rehearsal p (log_of logs p) (log_of more p) (begins p).0 (count_of t.counts p) (sym (begins p).1) (taken p isp)
 
 module _ (logs : List (Vec LogLine)) (t : Taken) where
   -- p's log isn't over, and its next line is barred if these members don't go on

@@ -25,15 +25,7 @@ row_local : (s : Setting) (g h : State) (p k l : ℕ) (m : Member) (act : LogAct
     row s g p m (step_of p k act) ≡ row s h p m (step_of p l act)
 row_local s g h p k l m (Submit c) count got = rw count refl
 row_local s g h p k l m (Receive name) count got = ap (λ o. option_map (receive s p m) o) got
-row_local s g h p k l m Begin count got = refl
-row_local s g h p k l m Enter count got = refl
-row_local s g h p k l m (Choose from) count got = refl
-row_local s g h p k l m Adopt count got = refl
-row_local s g h p k l m Suspect count got = refl
-row_local s g h p k l m Conclude count got = refl
-row_local s g h p k l m Deliver count got = refl
-row_local s g h p k l m Follow count got = refl
-row_local s g h p k l m Crash count got = refl
+row_local s g h p k l m _ count got = refl
 
 outcome_at : (s : Setting) (g : State) (p k : ℕ) (act : LogAct) →
     outcome_of s g (step_of p k act) ≡ (if can_act s g p then row s g p (member g p) (step_of p k act) else None)

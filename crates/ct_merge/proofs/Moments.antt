@@ -23,7 +23,7 @@ use Rattle.ct_merge.specs.Logs.{Moment, moments, is_own, is_repeat, own}
 use Rattle.ct_merge.specs.Runs.{IsRun}
 use Rattle.ct_merge.proofs.SentOnce.{stepping, get_cases, member_mine, member_theirs}
 use Rattle.ct_merge.proofs.SentOnce.{count_mine, count_theirs}
-use Rattle.ct_merge.proofs.Owning.{at, only, own_more}
+use Rattle.ct_merge.proofs.Owning.{at, only, own_grown, own_more}
 use Rattle.ct_merge.proofs.Running.{known, by_steps, state_next}
 
 -- ---- places
@@ -48,7 +48,7 @@ get_there [] i h = absurd (omega arith)
 get_there (y ∷ xs) zero h = (y, refl)
 get_there (y ∷ xs) (suc i) h = get_there xs i (omega arith)
 
-get_one : {A : Type 0} (x y : A) (i : ℕ) → slice_get (x ∷ []) i ≡ Some y → (i ≡ 0) × (y ≡ x)
+pub get_one : {A : Type 0} (x y : A) (i : ℕ) → slice_get (x ∷ []) i ≡ Some y → (i ≡ 0) × (y ≡ x)
 get_one x y zero e = (refl, sym (some-same x y e))
 get_one x y (suc i) e = some-none y e
 
@@ -203,11 +203,6 @@ up_to_more : (w : Rehearsal) (step : Step) (h : State) → IsRun w → next w.se
 unfolding AllUpTo
 up_to_more w step h r e old p isp = by_test (is_own p (at w step)) refl
   where
-    grown : (b : Bool) → is_own p (at w step) ≡ b →
-        length (own (extended w step) p) ≡ length (own w p) + length (only b (at w step))
-    grown b is =
-        ap length (own_more w p step) ∙ (ap (λ b. length (own w p ++ only b (at w step))) is ∙ length-append (own w p) (only b (at w step)))
-
     moved : (g : State) → IsLike p g (state_of w) → is_own p (at w step) ≡ false → IsLike p g (state_of (extended w step))
     moved g like other =
         subst (λ x. IsLike p g x) (sym (state_next w step h e))
@@ -215,7 +210,7 @@ up_to_more w step h r e old p isp = by_test (is_own p (at w step)) refl
 
     by_test : (b : Bool) → is_own p (at w step) ≡ b → IsUpTo (extended w step) p
     by_test true is =
-        let more : length (own (extended w step) p) ≡ length (own w p) + 1 = grown true is in
+        let more : length (own (extended w step) p) ≡ length (own w p) + 1 = own_grown w p step true is in
         record {
           fresh = λ none. absurd (omega arith);
           last = λ i m there end. elim (own_cases w step p i m there) [
@@ -225,7 +220,7 @@ up_to_more w step h r e old p isp = by_test (is_own p (at w step)) refl
           ];
         }
     by_test false is =
-        let same : length (own (extended w step) p) ≡ length (own w p) + 0 = grown false is in
+        let same : length (own (extended w step) p) ≡ length (own w p) + 0 = own_grown w p step false is in
         let before = old p isp in
         record {
           fresh = λ none.

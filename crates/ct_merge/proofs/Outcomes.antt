@@ -35,12 +35,13 @@ use Rattle.ct_merge.specs.declared.full_name.FullName.{FullName}
 use Rattle.ct_merge.specs.declared.log_act.LogAct.{LogAct}
 use Rattle.ct_merge.specs.declared.log_act.LogAct.TheVariants.{Submit, Receive, Begin, Enter, Choose, Adopt, Suspect, Conclude, Deliver}
 use Rattle.ct_merge.specs.declared.log_act.LogAct.TheVariants.{Follow, Crash}
+use Rattle.ct_merge.proofs.Begun.{is_member_of}
 use Rattle.ct_merge.proofs.Local.{acts_of, outcome_is}
 use Rattle.ct_merge.proofs.Moments.{IsPlaced, get_last, placed}
 use Rattle.ct_merge.proofs.Posting.{from_kept}
 use Rattle.ct_merge.proofs.Running.{run_next}
 use Rattle.ct_merge.proofs.Sameness.{behind, left, like_behind}
-use Rattle.ct_merge.proofs.Telling.{IsReceipt, IsToldStep, received_wire, told_step}
+use Rattle.ct_merge.proofs.Telling.{IsReceipt, IsToldStep, receipt_by, told_step}
 
 -- ---- what is read of a member
 
@@ -126,15 +127,7 @@ closed_row s g p k m Deliver o c e =
 closed_row s g p k m Follow o c e =
     let f = follow_row-is m o e in
     subst (λ (x : Outcome). IsClosed m x.member) f.1 (record { batch = _; batches = refl; last = refl })
-closed_row s g p k m (Submit x) o c e = absurd c
-closed_row s g p k m (Receive name) o c e = absurd c
-closed_row s g p k m Begin o c e = absurd c
-closed_row s g p k m Enter o c e = absurd c
-closed_row s g p k m (Choose from) o c e = absurd c
-closed_row s g p k m Adopt o c e = absurd c
-closed_row s g p k m Suspect o c e = absurd c
-closed_row s g p k m Conclude o c e = absurd c
-closed_row s g p k m Crash o c e = absurd c
+closed_row s g p k m _ o c e = absurd c
 
 last_same : (xs : List Wire) (x y : Wire) → xs ++ x ∷ [] ≡ xs ++ y ∷ [] → x ≡ y
 last_same xs x y e =
@@ -187,10 +180,7 @@ module _ (w : Rehearsal) (p i : ℕ) (m : Moment) (f : IsPlaced w p i m) (act : 
 
   -- what it receives
   receipt : (name : FullName) → act ≡ Receive name → IsReceipt m.before p telling.serial name
-  receipt name is =
-      let step_w = telling.is ∙ ap (λ z. step_of p telling.serial z) is in
-      received_wire m.before p telling.serial name f.state (telling.name name is)
-      (subst (λ z. next s g z ≡ Some f.state) step_w f.enabled)
+  receipt name is = receipt_by m.before p m.step act f.state telling f.enabled name is
 
   got : (name : FullName) (is : act ≡ Receive name) → (turn.outcome).member.got ≡ (member g p).got ++ (receipt name is).wire ∷ []
   got name is =
@@ -227,9 +217,6 @@ by_act w v p k l group same Suspect carried batch = refl
 by_act w v p k l group same Conclude carried batch = alone_same w v p group same
 by_act w v p k l group same Crash carried batch = refl
 
-member_test : (n p : ℕ) → IsMember n p → is_member n p ≡ true
-member_test n p h = grind (arith, nat_tests)
-
 -- the same own step of two runs comes to the same text
 pub text_same : (w v : Rehearsal) (p i j : ℕ) (m n : Moment) (act : LogAct) → IsRun w → IsRun v → v.setting ≡ w.setting →
     IsMember w.setting.members p → slice_get (own w p) i ≡ Some m → slice_get (own v p) j ≡ Some n →
@@ -258,8 +245,8 @@ text_same w v p i j m n act r u group isp there also told told_too same =
     ∙ sym (text_received v p j n b act told_too name is)))
     (λ c.
     let z = batch_there w p i m a act told c isp_m in
-    last_text (extended m.before m.step) (run_behind w p i m a act told) p z.0 isp_m (member_test m.before.setting.members p isp_m) z.1
+    last_text (extended m.before m.step) (run_behind w p i m a act told) p z.0 isp_m (is_member_of m.before.setting.members p isp_m) z.1
     ∙ sym (last_text (extended n.before n.step) (run_behind v p j n b act told_too) p z.0 isp_n
-    (member_test n.before.setting.members p isp_n)
+    (is_member_of n.before.setting.members p isp_n)
     (subst (λ (x : Member). at_serial x.batches x.last ≡ Some z.0) alike z.1)))
     ∙ sym (ap (λ z. stated_text (extended n.before n.step) z) y.is))

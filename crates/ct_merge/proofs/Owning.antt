@@ -1,5 +1,5 @@
 -- The own steps of members after one step more.
-use Rattle.std.proofs.Common.{◌≡◌, ℕ, Bool, true, false, List, [], ◌∷◌, ◌++◌, ap, sym, ◌∙◌, append-nil, append_assoc}
+use Rattle.std.proofs.Common.{◌≡◌, ℕ, ◌+◌, Bool, true, false, List, [], ◌∷◌, ◌++◌, ap, sym, ◌∙◌, append-nil, append_assoc, length, length-append}
 use Rattle.std.specs.Prelude.{filter, if◌then◌else◌}
 use Rattle.std.proofs.lemmas.List.Elements.{filter-append}
 use Rattle.ct_model.specs.Rehearsal.{Rehearsal, empty, extended}
@@ -39,3 +39,8 @@ own_joins w p step e = own_more w p step ∙ ap (λ b. own w p ++ only b (at w s
 -- another doesn't
 pub own_stays : (w : Rehearsal) (p : ℕ) (step : Step) → is_own p (at w step) ≡ false → own (extended w step) p ≡ own w p
 own_stays w p step e = own_more w p step ∙ (ap (λ b. own w p ++ only b (at w step)) e ∙ append-nil (own w p))
+
+pub own_grown : (w : Rehearsal) (p : ℕ) (step : Step) (b : Bool) → is_own p (at w step) ≡ b →
+    length (own (extended w step) p) ≡ length (own w p) + length (only b (at w step))
+own_grown w p step b is =
+    ap length (own_more w p step) ∙ (ap (λ b. length (own w p ++ only b (at w step))) is ∙ length-append (own w p) (only b (at w step)))

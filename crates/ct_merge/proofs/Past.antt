@@ -243,11 +243,6 @@ pub relayed_decision : (s : Setting) (p : ℕ) (got : List Wire) (k r : ℕ) (v 
 unfolding is_relayed
 relayed_decision s p got k r v h = (grind (arith, nat_tests), grind (arith, nat_tests))
 
-abbrev is_vote : Wire → Bool
-is_vote (wire.Data m) = false
-is_vote (wire.Dec k r v) = false
-is_vote _ = true
-
 decided_there : (m : Member) (k r : ℕ) → HasDecision m k r → has_decision m.got k r ≡ true
 decided_there m k r h =
     Lists.list_any-found (is_decision k r) (wire.Dec k r h.value) m.got h.is_in (grind (arith, nat_tests))
@@ -258,10 +253,6 @@ module _ (s : Setting) (g : State) (p : ℕ) (knows : KnowsMessages s g) (holds 
 
   abbrev count : ℕ
   count = submissions g.submitted p
-
-  never_relayed : (w : Wire) → is_vote w ≡ true → is_relayed s p m.got w ≡ true → ⊥
-  unfolding is_relayed
-  never_relayed w e h = grind arith
 
   gets_on : (w : Wire) → IsOn m (record m { got = m.got ++ w ∷ [] })
   gets_on w = on_same m (record m { got = m.got ++ w ∷ [] }) refl refl (λ x h. Lists.IsIn-append_left x m.got (w ∷ []) h)
@@ -277,6 +268,7 @@ module _ (s : Setting) (g : State) (p : ℕ) (knows : KnowsMessages s g) (holds 
 
   relays_fresh : (w : Wire) (k : ℕ) → wire_to g p k ≡ Some w → is_relayed s p m.got w ≡ true →
       IsPast s.members p m count (carried_of w) → ⊥
+  unfolding is_relayed
   relays_fresh (wire.Data x) k at relayed h =
       let r = relayed_message s p m.got x relayed in
       let old = h.1 r.1 in
@@ -289,13 +281,11 @@ module _ (s : Setting) (g : State) (p : ℕ) (knows : KnowsMessages s g) (holds 
       let f = relayed_decision s p m.got k r v relayed in
       let there = decided_there m k r (h.1 f.1) in
       cc
-  relays_fresh (wire.Est k r q v ts) i at relayed h = never_relayed (wire.Est k r q v ts) refl relayed
-  relays_fresh (wire.Prop k r v) i at relayed h = never_relayed (wire.Prop k r v) refl relayed
-  relays_fresh (wire.Ack k r q) i at relayed h = never_relayed (wire.Ack k r q) refl relayed
-  relays_fresh (wire.Nack k r q) i at relayed h = never_relayed (wire.Nack k r q) refl relayed
+  relays_fresh _ i at relayed h = cc
 
   relays_past : (w : Wire) (more : ℕ) → is_relayed s p m.got w ≡ true →
       IsPast s.members p (record m { got = m.got ++ w ∷ [] }) more (carried_of w)
+  unfolding is_relayed
   relays_past (wire.Data x) more relayed =
       let r = relayed_message s p m.got x relayed in (
         (λ e. absurd (r.1 e)),
@@ -311,10 +301,7 @@ module _ (s : Setting) (g : State) (p : ℕ) (knows : KnowsMessages s g) (holds 
         (λ e. absurd (f.1 e)),
         (λ ne. record { value = v; is_in = Lists.IsIn-append_right (wire.Dec k r v) m.got (wire.Dec k r v ∷ []) (inl refl) }),
       )
-  relays_past (wire.Est k r q v ts) more relayed = absurd (never_relayed (wire.Est k r q v ts) refl relayed)
-  relays_past (wire.Prop k r v) more relayed = absurd (never_relayed (wire.Prop k r v) refl relayed)
-  relays_past (wire.Ack k r q) more relayed = absurd (never_relayed (wire.Ack k r q) refl relayed)
-  relays_past (wire.Nack k r q) more relayed = absurd (never_relayed (wire.Nack k r q) refl relayed)
+  relays_past _ more relayed = absurd (cc)
 
   -- ---- each step
 

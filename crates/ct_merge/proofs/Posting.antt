@@ -25,7 +25,7 @@ use Rattle.ct_merge.specs.Runs.{IsRun, IsNamed}
 use Rattle.ct_merge.proofs.Local.{outcome_is}
 use Rattle.ct_merge.proofs.Moments.{get_back, get_below, get_last, get_many, no_own, not_own, own_actor, own_cases, own_front}
 use Rattle.ct_merge.proofs.Moments.{repeat_is}
-use Rattle.ct_merge.proofs.SentOnce.{PastIn, stepping, sent_more, named_cases, one_each, past_not, named_past}
+use Rattle.ct_merge.proofs.SentOnce.{PastIn, stepping, sent_more, named_cases, none_named, one_each, past_not, named_past}
 use Rattle.ct_merge.proofs.Owning.{at, only, own_more}
 use Rattle.ct_merge.proofs.Running.{known, by_steps, state_next, senders_next}
 
@@ -163,12 +163,7 @@ module _ (w : Rehearsal) (step : Step) (h : State) (r : IsRun w) (e : next w.set
 -- ---- every run
 
 none_from : (s : Setting) (cells p q : ℕ) (x : Wire) (k : ℕ) → IsFrom (empty s cells) p q x k → ⊥
-none_from s cells p q x k f =
-    nothing k (sym (ap (λ (g : State). at_serial g.sent k) (state-first s cells) ∙ ap (λ l. at_serial l k) (sent-first s)) ∙ f.there)
-  where
-    nothing : (k : ℕ) → at_serial [] k ≡ Some (letter q x) → ⊥
-    nothing zero e = some-none (letter q x) e
-    nothing (suc i) e = some-none (letter q x) e
+none_from s cells p q x k f = none_named s cells p q (carried_of x) k (is_named (empty s cells) p q x k f)
 
 -- what has a serial an own step of its sender sent
 pub posted : (w : Rehearsal) → IsRun w → (p q : ℕ) (x : Wire) (k : ℕ) → IsFrom w p q x k → IsPosted w p q x

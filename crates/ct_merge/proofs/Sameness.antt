@@ -32,7 +32,7 @@ use Rattle.ct_merge.proofs.SentOnce.{count_mine, member_mine, named_past}
 use Rattle.ct_merge.proofs.Owning.{at}
 use Rattle.ct_merge.proofs.Posting.{is_named, posted, sends_apart, sends_one}
 use Rattle.ct_merge.proofs.Running.{known, by_steps, state_next}
-use Rattle.ct_merge.proofs.Telling.{IsReceipt, received_wire, told_step}
+use Rattle.ct_merge.proofs.Telling.{IsReceipt, receipt_by, told_step}
 
 -- ---- the same behind the same
 
@@ -131,16 +131,7 @@ Acts a w = (p i : ℕ) (m : Moment) → IsMember w.setting.members p → slice_g
 pub same_gets : (g h : State) (p k l : ℕ) (act : LogAct) → ((name : FullName) → act ≡ Receive name → wire_to g p k ≡ wire_to h p l) →
     gets g p k act ≡ gets h p l act
 same_gets g h p k l (Receive name) same = same name refl
-same_gets g h p k l (Submit c) same = refl
-same_gets g h p k l Begin same = refl
-same_gets g h p k l Enter same = refl
-same_gets g h p k l (Choose from) same = refl
-same_gets g h p k l Adopt same = refl
-same_gets g h p k l Suspect same = refl
-same_gets g h p k l Conclude same = refl
-same_gets g h p k l Deliver same = refl
-same_gets g h p k l Follow same = refl
-same_gets g h p k l Crash same = refl
+same_gets g h p k l _ same = refl
 
 pub both_get : (g h : State) (p k l : ℕ) (x y : Wire) → wire_to g p k ≡ Some x → x ≡ y → wire_to h p l ≡ Some y →
     wire_to g p k ≡ wire_to h p l
@@ -171,9 +162,6 @@ same_wire w v x p k l name r u run_x group old earlier a b = by_place (below_or_
 
     named : carried_of a.wire ≡ carried_of b.wire
     named = a.carried ∙ sym b.carried
-
-    of_group : (z : Rehearsal) (i : ℕ) (m : Moment) → IsPlaced z (name.from) i m → z.setting ≡ w.setting → m.before.setting ≡ w.setting
-    of_group z i m f same = f.setting ∙ same
 
     both_here : (m : Moment) → slice_get (own w (name.from)) there.place ≡ Some m → a.wire ≡ b.wire
     both_here m at =
@@ -227,11 +215,8 @@ module _ (a : ℕ → ℕ → Option LogAct) (w : Rehearsal) (step : Step) (h : 
       let y = told_step n.before p n.step one.0 (other.2 ∙ ap Some act) f.actor in
       let wires : (name : FullName) → one.0 ≡ Receive name → wire_to (state_of w) p x.serial ≡ wire_to (state_of n.before) p y.serial =
       λ name is.
-      let step_w = x.is ∙ ap (λ z. step_of p x.serial z) is in
-      let step_n = y.is ∙ ap (λ z. step_of p y.serial z) is in
-      let rx = received_wire w p x.serial name h (x.name name is) (subst (λ z. next w.setting (state_of w) z ≡ Some h) step_w e) in
-      let ry = received_wire n.before p y.serial name f.state (y.name name is)
-      (subst (λ z. next n.before.setting (state_of n.before) z ≡ Some f.state) step_n f.enabled) in
+      let rx = receipt_by w p step one.0 h x e name is in
+      let ry = receipt_by n.before p n.step one.0 f.state y f.enabled name is in
       both_get (state_of w) (state_of n.before) p x.serial y.serial rx.wire ry.wire rx.gets
       (same_wire w v n.before p x.serial y.serial name r u f.run group old f.earlier rx ry) ry.gets in
       record {

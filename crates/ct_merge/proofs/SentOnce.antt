@@ -29,6 +29,8 @@ use Rattle.ct_merge.specs.Past.{IsPast}
 use Rattle.ct_merge.specs.Runs.{IsRun, IsNamed}
 use Rattle.ct_grammar.specs.declared.carried.Carried.{Carried}
 use Rattle.ct_merge.proofs.Past.{SendsOnce, past_on, sends_once}
+use Rattle.ct_merge.specs.declared.full_name.FullName.{FullName}
+use Rattle.ct_merge.proofs.Telling.{IsReceipt, receipt_named}
 use Rattle.ct_merge.proofs.Running.{IsKnown, known, by_steps, state_next, senders_next}
 
 -- ---- one step
@@ -223,7 +225,7 @@ record IsOnce (w : Rehearsal) : Type 0 where
   pub past : (p q : ℕ) (c : Carried) (k : ℕ) → IsNamed w p q c k → IsMember w.setting.members p × PastIn w.setting (state_of w) p c
   pub one : (p q : ℕ) (c : Carried) (j k : ℕ) → IsNamed w p q c j → IsNamed w p q c k → j ≡ k
 
-none_named : (s : Setting) (cells p q : ℕ) (c : Carried) (k : ℕ) → IsNamed (empty s cells) p q c k → ⊥
+pub none_named : (s : Setting) (cells p q : ℕ) (c : Carried) (k : ℕ) → IsNamed (empty s cells) p q c k → ⊥
 unfolding first_state
 none_named s cells p q c k f = nothing k (sym (ap (λ (x : State). at_serial x.sent k) (state-first s cells)) ∙ f.there)
   where
@@ -303,8 +305,12 @@ once_run = by_steps IsOnce
     once_more
 
 -- a sender, a receiver and what is carried are those of one serial
-pub named_once : (w : Rehearsal) → IsRun w → (p q : ℕ) (c : Carried) (j k : ℕ) → IsNamed w p q c j → IsNamed w p q c k → j ≡ k
+named_once : (w : Rehearsal) → IsRun w → (p q : ℕ) (c : Carried) (j k : ℕ) → IsNamed w p q c j → IsNamed w p q c k → j ≡ k
 named_once w r = (once_run w r).one
+
+pub one_receipt : (w : Rehearsal) → IsRun w → (p j k : ℕ) (name : FullName) → IsReceipt w p j name → IsReceipt w p k name → j ≡ k
+one_receipt w r p j k name a b =
+    named_once w r name.from p name.carried j k (receipt_named w p j name a) (receipt_named w p k name b)
 
 -- a sender has behind it what it sent
 pub named_past : (w : Rehearsal) → IsRun w → (p q : ℕ) (c : Carried) (k : ℕ) → IsNamed w p q c k →

@@ -1,7 +1,6 @@
 -- Logs that stand.
 use Rattle.std.proofs.Common.{◌≡◌, ℕ, zero, suc, ◌≤◌, ◌<◌, Bool, true, false, List, Option, Some, None, Err, inl, inr, length}
 use Rattle.std.proofs.Common.{slice_get, ap, sym, subst, ◌∙◌, arith, refl}
-use Rattle.std.proofs.lemmas.Option.{slice_get_cases}
 use Rattle.std.specs.Global.{Vec}
 use Rattle.ct_merge.specs.Logs.{log_of}
 use Rattle.ct_merge.specs.Merging.{Taken, count_of, received}
@@ -29,7 +28,7 @@ use Rattle.ct_model.proofs.Basics.Tests.{and_left}
 use Rattle.ct_model.proofs.Steps.LineSteps.{cause-repeat-unsent}
 use Rattle.ct_names.specs.Group.{is_member}
 use Rattle.std.specs.Prelude.{is_some}
-use Rattle.ct_merge.proofs.Moments.{get_below}
+use Rattle.ct_merge.proofs.Moments.{get_below, get_there}
 use Rattle.ct_merge.specs.Merging.{IsTakenFrom}
 
 abbrev receives : (w : Rehearsal) (p : ℕ) (line : LogLine) (name : FullName) (b : Bool) → line.act ≡ Receive name → IsUnsent w p name →
@@ -59,7 +58,7 @@ receipt_is (Receive other) name e =
 receipt_is _ name e = some-none name e
 
 -- the rules refuse all that is brought to a member that crashed
-refused_so : (c : Option Refusal) (refusal : Refusal) → verdict c ≡ Err refusal → c ≡ Some refusal
+pub refused_so : (c : Option Refusal) (refusal : Refusal) → verdict c ≡ Err refusal → c ≡ Some refusal
 refused_so None refusal e = absurd (cc)
 refused_so (Some other) refusal e =
     let same : other ≡ refusal = cc in
@@ -109,12 +108,6 @@ sender_in logs t p q h =
     let r = h.receives in
     subst (λ x. is_member t.rehearsal.setting.members x ≡ true) r.from (and_left _ _ r.may)
 
-element : (log : List LogLine) (n : ℕ) → n < length log → (line : LogLine) × (slice_get log n ≡ Some line)
-element log n within = elim (slice_get_cases log n).1 as (λ _. (line : LogLine) × (slice_get log n ≡ Some line)) [
-  | inl is ↦ (is.0, is.2)
-  | inr past ↦ absurd (omega (arith, within, past.0))
-]
-
 -- so are fewer waits
 pub led_fewer : (logs : List (Vec LogLine)) (t : Taken) (n m p : ℕ) → n ≤ m → IsLed logs t m p → IsLed logs t n p
 led_fewer logs t zero m p low led = tt
@@ -128,7 +121,7 @@ pub circle : (logs : List (Vec LogLine)) (t : Taken) (p : ℕ) (culprit : Culpri
     IsCulpritAt logs t culprit
 circle logs t p culprit inside more led member place why =
     let at : (line : LogLine) × (slice_get (log_of logs p) (count_of t.counts p) ≡ Some line) =
-    element (log_of logs p) (count_of t.counts p) more in
+    get_there (log_of logs p) (count_of t.counts p) more in
     let stand : IsStand logs t p Circle = record { line = at.0; next = at.1; reason = led } in
     record {
       in_group = subst (λ q. is_member t.rehearsal.setting.members q ≡ true) (sym member) inside;

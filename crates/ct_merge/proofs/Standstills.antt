@@ -10,6 +10,7 @@ use Rattle.std.proofs.lemmas.List.Folds.{list_any-append}
 use Rattle.ct_names.specs.Group.{is_member}
 use Rattle.ct_model.specs.Lawful.{IsLawful}
 use Rattle.ct_model.specs.Setting.{Setting}
+use Rattle.ct_model.proofs.Basics.Tests.{or_left, or_right}
 use Rattle.ct_merge.specs.Logs.{log_of}
 use Rattle.ct_merge.specs.Merging.{IsTakenFrom, Taken, count_of}
 use Rattle.ct_merge.specs.Standstills.{AllWaitBut, AreStopped, AreToldTo, IsRefusedLine, IsStoppedAt, IsTold, is_refused, is_waiting}
@@ -19,6 +20,7 @@ use Rattle.ct_merge.specs.declared.log_line.LogLine.{LogLine}
 use Rattle.ct_merge.specs.declared.stopped_line.StoppedLine.{StoppedLine}
 use Rattle.ct_merge.specs.declared.stopped_lines.StoppedLines.{StoppedLines}
 use Rattle.ct_merge.specs.declared.verdict.Culprit.{Culprit}
+use Rattle.ct_merge.proofs.Walking.{members_more}
 
 -- one more that is refused by itself
 pub refused_more : (s : Setting) (cells : ℕ) (logs : List (Vec LogLine)) (refused more : List Culprit) (c : Culprit) →
@@ -40,19 +42,14 @@ module _ (logs : List (Vec LogLine)) (t : Taken) (refused : List Culprit) where
   nobody : (p : ℕ) → is_member 0 p ≡ true → ⊥
   nobody p e = grind (arith, nat_tests)
 
-  before_it : (n p : ℕ) → is_member (n + 1) p ≡ true → p ≢ n + 1 → is_member n p ≡ true
-  before_it n p e other = grind (arith, nat_tests)
-
   pub told_none : (lines : List StoppedLine) → AreToldTo logs t refused lines 0
   told_none lines p member = absurd (nobody p member)
 
   told_next : (lines more : List StoppedLine) (i : ℕ) → AreToldTo logs t refused lines i →
       ((p : ℕ) → is_waiting lines p ≡ true → is_waiting more p ≡ true) → IsTold logs t refused more (i + 1) →
       AreToldTo logs t refused more (i + 1)
-  told_next lines more i before kept here p member = elim (cases_eq p (i + 1)) [
-    | inl same ↦ subst (λ q. IsTold logs t refused more q) (sym same) here
-    | inr other ↦ still p (before p (before_it i p member other))
-  ]
+  told_next lines more i before kept here =
+      members_more (λ p. IsTold logs t refused more p) i (λ p it. still p (before p it)) here
     where
       still : (p : ℕ) → IsTold logs t refused lines p → IsTold logs t refused more p
       still p (inl over) = inl over
@@ -71,27 +68,19 @@ module _ (logs : List (Vec LogLine)) (t : Taken) (refused : List Culprit) where
       here (inl over) = inl over
       here (inr stands) = inr (inl stands)
 
-  either : (a b : Bool) → a ≡ true → (a || b) ≡ true
-  either true b e = refl
-  either false b e = absurd (cc)
-
-  or_true : (a b : Bool) → b ≡ true → (a || b) ≡ true
-  or_true true b e = refl
-  or_true false b e = e
-
   -- its line is told now
   pub told_pushed : (lines more : List StoppedLine) (s : StoppedLine) (i p : ℕ) → p ≡ i + 1 → AreToldTo logs t refused lines i →
       s.member ≡ p → more ≡ lines ++ s ∷ [] → AreToldTo logs t refused more (i + 1)
   told_pushed lines more s i p e before member pushed =
-      told_next lines more i before (λ q h. more_told q ∙ either (is_waiting lines q) (is_waiting (s ∷ []) q) h)
-      (inr (inr (more_told (i + 1) ∙ or_true (is_waiting lines (i + 1)) (is_waiting (s ∷ []) (i + 1)) now)))
+      told_next lines more i before (λ q h. more_told q ∙ or_left (is_waiting lines q) (is_waiting (s ∷ []) q) h)
+      (inr (inr (more_told (i + 1) ∙ or_right (is_waiting lines (i + 1)) (is_waiting (s ∷ []) (i + 1)) now)))
     where
       more_told : (q : ℕ) → is_waiting more q ≡ (is_waiting lines q || is_waiting (s ∷ []) q)
       more_told q =
           ap (λ l. is_waiting l q) pushed ∙ list_any-append (λ (x : StoppedLine). x.member == q) lines (s ∷ [])
 
       now : is_waiting (s ∷ []) (i + 1) ≡ true
-      now = either (s.member == (i + 1)) false (eq-eqb s.member (i + 1) (member ∙ e))
+      now = or_left (s.member == (i + 1)) false (eq-eqb s.member (i + 1) (member ∙ e))
 
 pub ruleset all_told = (stopped_more, told_none, told_before, told_pushed)
 

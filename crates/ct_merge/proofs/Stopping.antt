@@ -1,5 +1,5 @@
 -- Lines that are refused by themselves.
-use Rattle.std.proofs.Common.{◌≡◌, ℕ, Bool, true, false, List, Some, None, inl, inr, ap, sym, subst, ◌∙◌, refl}
+use Rattle.std.proofs.Common.{◌≡◌, ℕ, Bool, true, false, List, Some, None, inl, inr, ap, sym, subst, ◌∙◌, refl, Option, Ok, Err}
 use Rattle.std.specs.Prelude.{◌⊎◌, slice_get}
 use Rattle.ct_names.specs.Group.{is_member}
 use Rattle.ct_model.specs.Cause.{cause}
@@ -17,6 +17,10 @@ use Rattle.ct_merge.specs.declared.own_fault.OwnFault.TheVariants.{Line, CameTo}
 use Rattle.ct_merge.specs.declared.log_line.LogLine.{LogLine}
 use Rattle.ct_merge.proofs.Local.{acts_of}
 use Rattle.ct_merge.proofs.Taking.{act_is, later_on, same_later, taken_still}
+use Rattle.ct_names.specs.declared.refusal.Refusal.{Refusal}
+use Rattle.ct_play.specs.Acting.{stepped, unless_refused}
+use Rattle.ct_play.specs.Played.{Played}
+use Rattle.ct_play.specs.declared.line_fault.LineFault.TheVariants.{Refused}
 
 -- what is more of a fault, where nothing is short
 pub unless_more : (b : Bool) (x y : Type 0) → (x → y) → UnlessShort b x → UnlessShort b y
@@ -137,3 +141,29 @@ stuck_on old mid p log count f others later h =
       there = s.there;
       fails = s.fails;
     }) h
+
+free : (s t : Played) (step : Step) (c : Option Refusal) → unless_refused s step c ≡ Ok t → c ≡ None
+free s t step None e = refl
+free s t step (Some refusal) e = absurd (cc)
+
+-- the rules allowed it
+pub allowed : (s t : Played) (step : Step) → stepped s step ≡ Ok t → cause s.rehearsal step ≡ None
+unfolding stepped
+allowed s t step e = free s t step (cause s.rehearsal step) e
+
+by_cause : (s : Played) (step : Step) (f : LineFault) (c : Option Refusal) → cause s.rehearsal step ≡ c →
+    unless_refused s step c ≡ Err f → IsRefusedBy s.rehearsal step f
+by_cause s step f None why e = absurd (cc)
+by_cause s step f (Some refusal) why e =
+    let same : Refused step refusal ≡ f = cc in
+    subst (λ g. IsRefusedBy s.rehearsal step g) same (refl, why)
+
+after_refused : (s : Played) (step : Step) (f : LineFault) → stepped s step ≡ Err f → IsRefusedBy s.rehearsal step f
+unfolding stepped
+after_refused s step f e = by_cause s step f (cause s.rehearsal step) refl e
+
+-- or refused it
+pub step_refused : (s : Played) (step : Step) (f : LineFault) → UnlessShort (is_short f) (stepped s step ≡ Err f) →
+    UnlessShort (is_short f) (IsRefusedBy s.rehearsal step f)
+step_refused s step f h =
+    unless_more (is_short f) (stepped s step ≡ Err f) (IsRefusedBy s.rehearsal step f) (after_refused s step f) h

@@ -5,6 +5,7 @@ use Rattle.std.specs.Prelude.{option_map, slice_get}
 use Rattle.std.specs.List.{AllZip}
 use Rattle.std.proofs.lemmas.Bool.{eq-eqb, ne_eqb}
 use Rattle.std.proofs.lemmas.List.{take_more}
+use Rattle.std.proofs.lemmas.Option.{get_or_from_slice_get}
 use Rattle.std.proofs.lemmas.Slice.Zip.{all_zipped_more}
 use Rattle.ct_model.specs.Rehearsal.{Rehearsal, extended}
 use Rattle.ct_model.specs.declared.step.Step.{Step}
@@ -30,32 +31,14 @@ other_member : (p q : ℕ) → q ≢ p → (p == q) ≡ false
 other_member p q ne = ne_eqb p q (λ e. ne (sym e))
 
 -- the step of a log's act is its member's own
-own_step : (w : Rehearsal) (p k : ℕ) (act : LogAct) → is_own p (at w (step_of p k act)) ≡ true
+pub own_step : (w : Rehearsal) (p k : ℕ) (act : LogAct) → is_own p (at w (step_of p k act)) ≡ true
 own_step w p k (told.Submit c) = ap (λ b. b && true) (same_member p)
-own_step w p k (told.Receive name) = ap (λ b. b && true) (same_member p)
-own_step w p k told.Begin = ap (λ b. b && true) (same_member p)
-own_step w p k told.Enter = ap (λ b. b && true) (same_member p)
-own_step w p k (told.Choose from) = ap (λ b. b && true) (same_member p)
-own_step w p k told.Adopt = ap (λ b. b && true) (same_member p)
-own_step w p k told.Suspect = ap (λ b. b && true) (same_member p)
-own_step w p k told.Conclude = ap (λ b. b && true) (same_member p)
-own_step w p k told.Deliver = ap (λ b. b && true) (same_member p)
-own_step w p k told.Follow = ap (λ b. b && true) (same_member p)
-own_step w p k told.Crash = ap (λ b. b && true) (same_member p)
+own_step w p k _ = ap (λ b. b && true) (same_member p)
 
 -- and no other's
 others_step : (w : Rehearsal) (p k q : ℕ) (act : LogAct) → q ≢ p → is_own q (at w (step_of p k act)) ≡ false
 others_step w p k q (told.Submit c) ne = ap (λ b. b && true) (other_member p q ne)
-others_step w p k q (told.Receive name) ne = ap (λ b. b && true) (other_member p q ne)
-others_step w p k q told.Begin ne = ap (λ b. b && true) (other_member p q ne)
-others_step w p k q told.Enter ne = ap (λ b. b && true) (other_member p q ne)
-others_step w p k q (told.Choose from) ne = ap (λ b. b && true) (other_member p q ne)
-others_step w p k q told.Adopt ne = ap (λ b. b && true) (other_member p q ne)
-others_step w p k q told.Suspect ne = ap (λ b. b && true) (other_member p q ne)
-others_step w p k q told.Conclude ne = ap (λ b. b && true) (other_member p q ne)
-others_step w p k q told.Deliver ne = ap (λ b. b && true) (other_member p q ne)
-others_step w p k q told.Follow ne = ap (λ b. b && true) (other_member p q ne)
-others_step w p k q told.Crash ne = ap (λ b. b && true) (other_member p q ne)
+others_step w p k q _ ne = ap (λ b. b && true) (other_member p q ne)
 
 and_false : (b : Bool) → (b && false) ≡ false
 and_false true = refl
@@ -107,16 +90,7 @@ pub ruleset later = (later_same, later_step, later_more, steps_more)
 
 pub act_is : (w : Rehearsal) (p k : ℕ) (act : LogAct) → IsSerialOf w p act k → act_of w (step_of p k act) ≡ Some act
 act_is w p k (told.Receive name) serial = ap (option_map told.Receive) serial.named
-act_is w p k (told.Submit c) serial = refl
-act_is w p k told.Begin serial = refl
-act_is w p k told.Enter serial = refl
-act_is w p k (told.Choose from) serial = refl
-act_is w p k told.Adopt serial = refl
-act_is w p k told.Suspect serial = refl
-act_is w p k told.Conclude serial = refl
-act_is w p k told.Deliver serial = refl
-act_is w p k told.Follow serial = refl
-act_is w p k told.Crash serial = refl
+act_is w p k _ serial = refl
 
 -- a line waits for nothing whose act has a serial
 pub ready : (w : Rehearsal) (p : ℕ) (log : List LogLine) (count k : ℕ) (line : LogLine) → slice_get log count ≡ Some line →
@@ -175,17 +149,12 @@ pub taken_still : (old new : Rehearsal) (p : ℕ) (log : List LogLine) (count : 
 taken_still old new p log count same h =
     record { within = h.within; is = subst (λ l. AllZip IsTold l (take count log)) (sym (same p)) h.is }
 
-get_or_is : {A : Type 0} (xs : List A) (i : ℕ) (x : A) → slice_get xs i ≡ Some x → get_or xs i x ≡ x
-get_or_is [] i x e = refl
-get_or_is (y ∷ xs) zero x e = some-same y x e
-get_or_is (y ∷ xs) (suc i) x e = get_or_is xs i x e
-
 pub taken_more : (old new : Rehearsal) (p : ℕ) (log : List LogLine) (count more : ℕ) (line : LogLine) → slice_get log count ≡ Some line →
     Takes old p line new → IsTakenTo old p log count → more ≡ count + 1 → IsTakenTo new p log more
 taken_more old new p log count more line there t h next =
     let lt : count < length log = get_below log count line there in
     let lines : take (count + 1) log ≡ take count log ++ line ∷ [] =
-    take_more log count line lt ∙ ap (λ x. take count log ++ x ∷ []) (get_or_is log count line there) in
+    take_more log count line lt ∙ ap (λ x. take count log ++ x ∷ []) (get_or_from_slice_get log count line line there) in
     let both : AllZip IsTold (own old p ++ t.moment ∷ []) (take count log ++ line ∷ []) =
     all_zipped_more IsTold (own old p) (take count log) t.moment line h.is t.told in
     let whole : IsTakenTo new p log (count + 1) =

@@ -19,6 +19,7 @@ use Rattle.ct_merge.specs.Logs.{act_of}
 use Rattle.ct_merge.specs.Merging.{step_of}
 use Rattle.ct_play.specs.Picking.{carried_of, sender_of}
 use Rattle.ct_merge.specs.Names.{full_name, named}
+use Rattle.ct_merge.specs.Runs.{IsNamed}
 use Rattle.ct_merge.specs.declared.full_name.FullName.{FullName}
 use Rattle.ct_merge.specs.declared.log_act.LogAct.{LogAct}
 use Rattle.ct_merge.specs.declared.log_act.LogAct.TheVariants.{Submit, Receive, Begin, Enter, Choose, Adopt, Suspect, Conclude, Deliver}
@@ -52,29 +53,18 @@ plain_told w p step given act e is other =
 
 pub told_step : (w : Rehearsal) (p : ℕ) (step : Step) (act : LogAct) → act_of w step ≡ Some act → actor step ≡ p →
     IsToldStep w p step act
-told_step w p (step.Submit q c) act e mine = plain_told w p _ (Submit c) act e (ap (λ z. step.Submit z c) mine) (λ name f. cc)
 told_step w p (step.Receive q k) act e mine =
     subst (λ z. IsToldStep w p (step.Receive z k) act) (sym mine) (receives w p k act (full_name w k) refl e)
-told_step w p (step.Begin q) act e mine = plain_told w p _ Begin act e (ap (λ z. step.Begin z) mine) (λ name f. cc)
-told_step w p (step.Enter q) act e mine = plain_told w p _ Enter act e (ap (λ z. step.Enter z) mine) (λ name f. cc)
-told_step w p (step.Choose q from) act e mine = plain_told w p _ (Choose from) act e (ap (λ z. step.Choose z from) mine) (λ name f. cc)
-told_step w p (step.Adopt q) act e mine = plain_told w p _ Adopt act e (ap (λ z. step.Adopt z) mine) (λ name f. cc)
-told_step w p (step.Suspect q) act e mine = plain_told w p _ Suspect act e (ap (λ z. step.Suspect z) mine) (λ name f. cc)
-told_step w p (step.Conclude q) act e mine = plain_told w p _ Conclude act e (ap (λ z. step.Conclude z) mine) (λ name f. cc)
-told_step w p (step.Deliver q) act e mine = plain_told w p _ Deliver act e (ap (λ z. step.Deliver z) mine) (λ name f. cc)
-told_step w p (step.Follow q) act e mine = plain_told w p _ Follow act e (ap (λ z. step.Follow z) mine) (λ name f. cc)
-told_step w p (step.Crash q) act e mine = plain_told w p _ Crash act e (ap (λ z. step.Crash z) mine) (λ name f. cc)
-told_step w p _ act e mine = some-none act e
+told_step w p (step.Postpone q k) act e mine = some-none act e
+told_step w p (step.Lose q k) act e mine = some-none act e
+told_step w p (step.Repeat q k) act e mine = some-none act e
+told_step w p _ act e mine = plain_told w p _ _ act e (rw mine refl) (λ name f. cc)
 
 -- ---- receipts
 
 pub carried_same : (x : Wire) → carried_of (without_value (letter 0 x)).wire ≡ carried_of x
 carried_same (wire.Data m) = refl
-carried_same (wire.Est k r p v t) = refl
-carried_same (wire.Prop k r v) = refl
-carried_same (wire.Ack k r p) = refl
-carried_same (wire.Nack k r p) = refl
-carried_same (wire.Dec k r v) = refl
+carried_same _ = refl
 
 -- what a full name says of the envelope
 record IsSoNamed (o : Option Envelope) (from : Option ℕ) (name : FullName) : Type 0 where
@@ -127,3 +117,14 @@ received_wire w p k name h full e =
     let t = next-is w.setting (state_of w) (step.Receive p k) h e in
     let made = made-map (receive w.setting p (member (state_of w) p)) (wire_to (state_of w) p k) t.outcome t.row in
     wire_named w p k name made.from full made.is
+
+-- so does an enabled step that is told so
+pub receipt_by : (w : Rehearsal) (p : ℕ) (step : Step) (act : LogAct) (h : State) (x : IsToldStep w p step act) →
+    next w.setting (state_of w) step ≡ Some h → (name : FullName) → act ≡ Receive name → IsReceipt w p x.serial name
+receipt_by w p step act h x e name is =
+    received_wire w p x.serial name h (x.name name is)
+    (subst (λ z. next w.setting (state_of w) z ≡ Some h) (x.is ∙ ap (λ z. step_of p x.serial z) is) e)
+
+pub receipt_named : (w : Rehearsal) (p k : ℕ) (name : FullName) → IsReceipt w p k name → IsNamed w name.from p name.carried k
+receipt_named w p k name f =
+    record { envelope = letter p f.wire; there = (f.from).there; to = refl; carried = f.carried; from = (f.from).sender }

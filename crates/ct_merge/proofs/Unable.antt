@@ -1,6 +1,6 @@
 -- What a member sends no more it sends in no step, nor later.
-use Rattle.std.proofs.Common.{◌≡◌, ℕ, zero, suc, ◌<◌, ◌≤◌, ◌⊎◌, Bool, true, false, List, [], ◌∷◌, Some}
-use Rattle.std.proofs.Common.{inl, inr, refl, sym, ap, subst, arith, is_some, filter_map}
+use Rattle.std.proofs.Common.{◌≡◌, ℕ, zero, suc, ◌<◌, ◌≤◌, ◌⊎◌, Bool, true, false, List, [], ◌∷◌, Some, inl, inr, refl, sym, ap, subst}
+use Rattle.std.proofs.Common.{arith, is_some, filter_map, ◌+◌, length, ◌∙◌}
 use Rattle.std.specs.Prelude.{if◌then◌else◌, slice_get}
 use Rattle.std.proofs.lemmas.Bool.Decides.{nat_tests}
 use Rattle.ct_names.specs.Group.{coordinator, IsMember}
@@ -8,11 +8,11 @@ use Rattle.ct_names.specs.Membership.{IsIn}
 use Rattle.ct_names.specs.Value.{Value}
 use Rattle.ct_names.proofs.Lists
 use Rattle.ct_model.specs.AtValue.{Envelope, Mail, Standing, Turn, Wire}
-use Rattle.ct_model.specs.Next.{Outcome, is_relayed, own_ballots, row, turn_at, turned}
+use Rattle.ct_model.specs.Next.{Outcome, is_relayed, own_ballots, row, turn_at, turned, next}
 use Rattle.ct_model.specs.Phases.{is_gather}
 use Rattle.ct_model.specs.Received.{ballots, decided, head, proposal, proposal_of}
 use Rattle.ct_model.specs.Setting.{Setting}
-use Rattle.ct_model.specs.State.{Member, State, member}
+use Rattle.ct_model.specs.State.{Member, State, member, submissions}
 use Rattle.ct_model.specs.Wire.{envelopes}
 use Rattle.ct_model.specs.declared.mail.Mail.TheVariants.{All, Nobody, One}
 use Rattle.ct_model.specs.declared.moves.Move.{Move}
@@ -20,7 +20,7 @@ use Rattle.ct_model.specs.declared.moves.Move.TheVariants.{Adopt, Choose, Conclu
 use Rattle.ct_model.specs.declared.step.Step.{Step}
 use Rattle.ct_model.specs.declared.wire.Wire.TheVariants as wire
 use Rattle.ct_model.proofs.Basics.Options.{some-none, some-same}
-use Rattle.ct_model.proofs.Consensus.Facts.{Holds}
+use Rattle.ct_model.proofs.Consensus.Facts.{Holds, member_is}
 use Rattle.ct_model.proofs.Consensus.Readings
 use Rattle.ct_model.proofs.Consensus.Sent.{Carries, carries-mail, get-wire}
 use Rattle.ct_model.proofs.Steps.Rows.{adopt-is, choose-is, conclude-is, enter-is, suspect-is}
@@ -28,11 +28,23 @@ use Rattle.ct_model.proofs.Steps.Shapes.{by_shape}
 use Rattle.ct_play.specs.Picking.{carried_of}
 use Rattle.ct_grammar.specs.declared.carried.Carried.{Carried}
 use Rattle.ct_grammar.specs.declared.carried.Carried.TheVariants.{Data, Est, Prop, Ack, Nack, Dec}
-use Rattle.ct_merge.specs.Deeds.{letter}
+use Rattle.ct_merge.specs.Deeds.{letter, Sends}
 use Rattle.ct_merge.specs.Past.{IsPast}
 use Rattle.ct_merge.specs.Unable.{GoesElsewhere, IsSkipped, IsWithoutNack, SendsNoMore, SkipsRound}
 use Rattle.ct_merge.specs.Unable.SendsNoMore.{elsewhere, past, proposed, skipped}
-use Rattle.ct_merge.proofs.Past.{IsOn, decision_on, past_on, relayed_decision}
+use Rattle.ct_merge.proofs.Past.{IsOn, decision_on, past_on, relayed_decision, sends_once}
+use Rattle.ct_model.specs.Actor.{actor}
+use Rattle.ct_model.specs.Knowledge.{KnowsMessages}
+use Rattle.ct_model.specs.Rehearsal.{Rehearsal, extended, state_of}
+use Rattle.ct_model.proofs.Record.Members.{p_or_other}
+use Rattle.ct_model.proofs.Relay.Messages.{IsStep, next-is}
+use Rattle.ct_merge.specs.Logs.{Moment, own}
+use Rattle.ct_merge.specs.Runs.{IsRun}
+use Rattle.ct_merge.proofs.Local.{outcome_is}
+use Rattle.ct_merge.proofs.Moments.{IsPlaced, get_there, no_own, own_cases, placed}
+use Rattle.ct_merge.proofs.Running.{by_steps, known, state_next}
+use Rattle.ct_merge.proofs.Sameness.{below_or_not}
+use Rattle.ct_merge.proofs.SentOnce.{count_mine, count_theirs, member_mine, member_theirs, past_not, stepping}
 
 -- ---- to whom a mail goes
 
@@ -119,10 +131,7 @@ relayed_for : (s : Setting) (q p : ℕ) (m : Member) (w : Wire) → is_relayed s
 unfolding is_relayed
 relayed_for s q p m (wire.Data x) h = tt
 relayed_for s q p m (wire.Dec k r v) h = λ e. absurd ((relayed_decision s q m.got k r v h).1 e)
-relayed_for s q p m (wire.Est k r a v ts) h = absurd (cc)
-relayed_for s q p m (wire.Prop k r v) h = absurd (cc)
-relayed_for s q p m (wire.Ack k r a) h = absurd (cc)
-relayed_for s q p m (wire.Nack k r a) h = absurd (cc)
+relayed_for s q p m _ h = absurd (cc)
 
 gets_for : (s : Setting) (q : ℕ) (m : Member) (w : Wire) (b : Bool) → is_relayed s q m.got w ≡ b →
     SentFor s.members q m (if b then All w else Nobody)
@@ -179,22 +188,15 @@ no_skipped n q p m (Dec k r) h f = not_of_round m k r h.1 (f h.0)
 
 no_elsewhere : (n q p : ℕ) (m : Member) (c : Carried) → GoesElsewhere n q p c → IsSentFor n q p m c → ⊥
 no_elsewhere n q p m (Data o i) h f = h
-no_elsewhere n q p m (Est k r) h f = h f.0
-no_elsewhere n q p m (Prop k r) h f = h f.0
-no_elsewhere n q p m (Ack k r) h f = h f.0
-no_elsewhere n q p m (Nack k r) h f = h f.0
 no_elsewhere n q p m (Dec k r) h f = h
+no_elsewhere n q p m _ h f = h f.0
 
 no_nack : (n q p : ℕ) (m : Member) (c : Carried) → IsWithoutNack m c → IsSentFor n q p m c → ⊥
 no_nack n q p m (Nack k r) h f =
     let has : is_some (ballots m.got k r).proposal ≡ true = proposal_there m.got k r h.value h.is_in in
     let none : is_some (ballots m.got k r).proposal ≡ false = f.2 in
     cc
-no_nack n q p m (Data o i) h f = h
-no_nack n q p m (Est k r) h f = h
-no_nack n q p m (Prop k r) h f = h
-no_nack n q p m (Ack k r) h f = h
-no_nack n q p m (Dec k r) h f = h
+no_nack n q p m _ h f = h
 
 pub no_more : (n q p : ℕ) (m : Member) (count : ℕ) (c : Carried) → SendsNoMore n q p m count c → IsSentFor n q p m c →
     (IsPast n q m count c → ⊥) → ⊥
@@ -243,22 +245,112 @@ module _ (n q p : ℕ) (m o : Member) (a b : ℕ) (on : IsOn m o) (more : a ≤ 
 
   skipped_on : (c : Carried) → IsSkipped n q m c → IsSkipped n q o c
   skipped_on (Data x i) h = h
-  skipped_on (Est k r) h = round_on k r h
-  skipped_on (Prop k r) h = round_on k r h
-  skipped_on (Ack k r) h = round_on k r h
-  skipped_on (Nack k r) h = round_on k r h
   skipped_on (Dec k r) h = (h.0, round_on k r h.1)
+  skipped_on _ h = round_on _ _ h
 
   proposed_on : (c : Carried) → IsWithoutNack m c → IsWithoutNack o c
   proposed_on (Nack k r) h = record { value = h.value; is_in = on.got (wire.Prop k r h.value) h.is_in }
-  proposed_on (Data x i) h = h
-  proposed_on (Est k r) h = h
-  proposed_on (Prop k r) h = h
-  proposed_on (Ack k r) h = h
-  proposed_on (Dec k r) h = h
+  proposed_on _ h = h
 
   pub no_more_on : (c : Carried) → SendsNoMore n q p m a c → SendsNoMore n q p o b c
   no_more_on c (past h) = past (past_on n q m o a b on more c h)
   no_more_on c (elsewhere h) = elsewhere h
   no_more_on c (skipped h) = skipped (skipped_on c h)
   no_more_on c (proposed h) = proposed (proposed_on c h)
+
+-- q sends this to p no more
+abbrev pub NoMoreIn : Setting → State → ℕ → ℕ → Carried → Type 0
+NoMoreIn s g q p c = SendsNoMore s.members q p (member g q) (submissions g.submitted q) c
+
+-- ---- one step
+
+module _ (s : Setting) (g : State) (step : Step) (h : State) (t : IsStep s g step h) (holds : Holds s g) (knows : KnowsMessages s g) where
+  is : IsMember s.members (actor step)
+  is = member_is s.members (actor step) t.in_group
+
+  mine_on : (p : ℕ) (c : Carried) → NoMoreIn s g (actor step) p c → NoMoreIn s h (actor step) p c
+  mine_on p c old =
+      let q : ℕ = actor step in
+      let count : ℕ = submissions g.submitted q in
+      let on = (sends_once s g q knows holds is step t.outcome t.row (count + length (t.outcome).submitted) refl).on in
+      let low : count ≤ count + length (t.outcome).submitted = omega arith in
+      subst (λ m. SendsNoMore s.members q p m (submissions h.submitted q) c) (sym (member_mine s g step h t holds knows))
+      (subst (λ k. SendsNoMore s.members q p (t.outcome).member k c) (sym (count_mine s g step h t holds knows))
+      (no_more_on s.members q p (member g q) (t.outcome).member count (count + length (t.outcome).submitted) on low
+      (skips_on s g q step t.outcome t.row) c old))
+
+  -- it stays so
+  no_more_kept : (q p : ℕ) → IsMember s.members q → (c : Carried) → NoMoreIn s g q p c → NoMoreIn s h q p c
+  no_more_kept q p isq c old = elim (p_or_other q (actor step)) [
+    | inl same ↦ subst (λ x. NoMoreIn s h x p c) (sym same) (mine_on p c (subst (λ x. NoMoreIn s g x p c) same old))
+    | inr ne ↦
+        subst (λ m. SendsNoMore s.members q p m (submissions h.submitted q) c) (sym (member_theirs s g step h t holds knows q isq ne))
+        (subst (λ k. SendsNoMore s.members q p (member g q) k c) (sym (count_theirs s g step h t holds knows q ne)) old)
+  ]
+
+  -- the step doesn't send it
+  no_more_not : (p : ℕ) (x : Wire) → GoesTo (t.outcome).mail p x → NoMoreIn s g (actor step) p (carried_of x) → ⊥
+  no_more_not p x goes old =
+      let q : ℕ = actor step in
+      no_more s.members q p (member g q) (submissions g.submitted q) (carried_of x) old
+      (sent_for s g q holds is step t.outcome t.row p x goes)
+      (past_not s g step h t holds knows x (goes_carries (t.outcome).mail p x goes))
+
+-- ---- every run
+
+NoMoreOn : Rehearsal → Type 0
+NoMoreOn w = (q p i : ℕ) (m : Moment) (c : Carried) → IsMember w.setting.members q → slice_get (own w q) i ≡ Some m →
+    NoMoreIn w.setting (state_of m.before) q p c → NoMoreIn w.setting (state_of w) q p c
+
+no_more_step : (w : Rehearsal) (step : Step) (h : State) → IsRun w → next w.setting (state_of w) step ≡ Some h → NoMoreOn w →
+    NoMoreOn (extended w step)
+unfolding NoMoreOn
+no_more_step w step h r e old q p i m c isq there before =
+    let facts = known w r in
+    let now : NoMoreIn w.setting (state_of w) q p c = elim (own_cases w step q i m there) [
+      | inl a ↦ old q p i m c isq a before
+      | inr b ↦ subst (λ (x : Moment). NoMoreIn w.setting (state_of x.before) q p c) b.is before
+    ] in
+    subst (λ x. NoMoreIn w.setting x q p c) (sym (state_next w step h e))
+    (no_more_kept w.setting (state_of w) step h (stepping w step h r e) facts.holds facts.knows q p isq c now)
+
+-- what a member sends no more at an own step it sends no more later
+no_more_run : (w : Rehearsal) → IsRun w → NoMoreOn w
+unfolding NoMoreOn
+no_more_run = by_steps NoMoreOn
+    (λ s cells q p i m c isq there before. some-none m (sym (ap (λ l. slice_get l i) (no_own s cells q)) ∙ there)) no_more_step
+
+-- so none that is no earlier sends it
+pub no_more_sends : (w : Rehearsal) → IsRun w → (q i j : ℕ) (m n : Moment) (p : ℕ) (x : Wire) → IsMember w.setting.members q →
+    slice_get (own w q) i ≡ Some m → slice_get (own w q) j ≡ Some n → i ≤ j →
+    NoMoreIn w.setting (state_of m.before) q p (carried_of x) → Sends n p x → ⊥
+unfolding NoMoreOn
+no_more_sends w r q i j m n p x isq there also low before sends =
+    let f = placed w r q j n also in
+    let s : Setting = n.before.setting in
+    let t = next-is s (state_of n.before) n.step f.state f.enabled in
+    let facts = known n.before f.run in
+    let same : (sends.outcome) ≡ t.outcome =
+    some-same sends.outcome t.outcome (sym sends.is ∙ outcome_is s (state_of n.before) n.step f.state t) in
+    let goes : GoesTo (t.outcome).mail p x =
+    subst (λ (o : Outcome). GoesTo o.mail p x) same (goes_to s.members (sends.outcome).mail sends.place p x sends.there) in
+    no_more_not s (state_of n.before) n.step f.state t facts.holds facts.knows p x goes
+    (subst (λ z. NoMoreIn s (state_of n.before) z p (carried_of x)) (sym f.actor)
+    (subst (λ (z : Setting). NoMoreIn z (state_of n.before) q p (carried_of x)) (sym f.setting) (now f)))
+  where
+    now : IsPlaced w q j n → NoMoreIn w.setting (state_of n.before) q p (carried_of x)
+    now f = elim (below_or_not i j) [
+      | inl less ↦
+          let z = get_there (own n.before q) i (let count : length (own n.before q) ≡ j = f.count in omega arith) in
+          let same : z.0 ≡ m = some-same z.0 m (sym (f.earlier q i z.0 z.1) ∙ there) in
+          let before : NoMoreIn n.before.setting (state_of (z.0).before) q p (carried_of x) =
+          subst (λ (s : Setting). NoMoreIn s (state_of (z.0).before) q p (carried_of x)) (sym f.setting)
+          (subst (λ (y : Moment). NoMoreIn w.setting (state_of y.before) q p (carried_of x)) (sym same) before) in
+          subst (λ (s : Setting). NoMoreIn s (state_of n.before) q p (carried_of x)) f.setting
+          (no_more_run n.before f.run q p i z.0 (carried_of x)
+          (subst (λ (s : Setting). IsMember s.members q) (sym f.setting) isq) z.1 before)
+      | inr more ↦
+          let at_once : i ≡ j = omega arith in
+          let same : m ≡ n = some-same m n (sym there ∙ (ap (λ i. slice_get (own w q) i) at_once ∙ also)) in
+          subst (λ (y : Moment). NoMoreIn w.setting (state_of y.before) q p (carried_of x)) same before
+    ]

@@ -16,34 +16,26 @@ use Rattle.ct_merge.specs.declared.verdict.Verdict.{Verdict}
 use Rattle.ct_merge.specs.declared.verdict.Verdict.TheVariants.{Refused, Cut, Limited}
 use Rattle.ct_merge.proofs.Circles.{refused_none}
 use Rattle.ct_merge.proofs.Standing.{some_waits}
-use Rattle.ct_merge.proofs.Waiting.{waiting_none}
+use Rattle.ct_merge.proofs.Held.{waiting_none}
 
-module _ (c : Culprit) where
-  accepted_by : (ends limits : Bool) (fact : Rehearsal → Type 0) →
-      IfAccepted (if ends then Cut c else if limits then Limited c else Refused c) fact
-  accepted_by true limits fact = tt
-  accepted_by false true fact = tt
-  accepted_by false false fact = tt
-
-  stopped_by : (ends limits : Bool) (fact : Culprit → Type 0) → fact c →
-      IfStopped (if ends then Cut c else if limits then Limited c else Refused c) fact
-  stopped_by true limits fact h = h
-  stopped_by false true fact h = h
-  stopped_by false false fact h = h
-
-  refused_by : (ends limits : Bool) (fact : Culprit → Type 0) → (ends ≡ false → limits ≡ false → fact c) →
-      IfRefused (if ends then Cut c else if limits then Limited c else Refused c) fact
-  refused_by true limits fact h = tt
-  refused_by false true fact h = tt
-  refused_by false false fact h = h refl refl
+-- what is so of each verdict that its reason allows
+by_reason : (P : Verdict → Type 0) (c : Culprit) (v : Verdict) → v ≡ verdict_at c → P (Cut c) → P (Limited c) →
+    (is_ended c.why ≡ false → is_limit c.why ≡ false → P (Refused c)) → P v
+by_reason P c v e cut limited refused = subst P (sym e) (by_tests (is_ended c.why) refl (is_limit c.why) refl)
+  where
+    by_tests : (ends : Bool) → is_ended c.why ≡ ends → (limits : Bool) → is_limit c.why ≡ limits →
+        P (if ends then Cut c else if limits then Limited c else Refused c)
+    by_tests true _ limits _ = cut
+    by_tests false _ true _ = limited
+    by_tests false here false free = refused here free
 
 -- nothing is accepted
 pub accepted_at : (v : Verdict) (c : Culprit) (fact : Rehearsal → Type 0) → v ≡ verdict_at c → IfAccepted v fact
-accepted_at v c fact e = subst (λ v. IfAccepted v fact) (sym e) (accepted_by c (is_ended c.why) (is_limit c.why) fact)
+accepted_at v c fact e = by_reason (λ v. IfAccepted v fact) c v e tt tt (λ _ _. tt)
 
 -- what is so of the line is so of the one that is told
 pub stopped_at : (v : Verdict) (c : Culprit) (fact : Culprit → Type 0) → v ≡ verdict_at c → fact c → IfStopped v fact
-stopped_at v c fact e h = subst (λ v. IfStopped v fact) (sym e) (stopped_by c (is_ended c.why) (is_limit c.why) fact h)
+stopped_at v c fact e h = by_reason (λ v. IfStopped v fact) c v e h h (λ _ _. h)
 
 -- its reason says which verdict it is
 pub told_at : (v : Verdict) (c : Culprit) → v ≡ verdict_at c → IfStopped v (λ it. v ≡ verdict_at it)
@@ -53,8 +45,7 @@ told_at v c e = stopped_at v c (λ it. v ≡ verdict_at it) e e
 pub refused_at : (s : Setting) (cells : ℕ) (logs : List (Vec LogLine)) (v : Verdict) (c : Culprit) → v ≡ verdict_at c →
     IsCulprit s cells logs c → IfRefused v (λ it. NeverMerges s logs)
 refused_at s cells logs v c e h =
-    subst (λ v. IfRefused v (λ it. NeverMerges s logs)) (sym e)
-    (refused_by c (is_ended c.why) (is_limit c.why) (λ it. NeverMerges s logs) (refused_none s cells logs c h))
+    by_reason (λ v. IfRefused v (λ it. NeverMerges s logs)) c v e tt tt (refused_none s cells logs c h)
 
 -- a line that is refused by itself doesn't wait
 pub none_halted : (s : Setting) (logs : List (Vec LogLine)) (v : Verdict) (t : Taken) (f : OwnFault) → v ≡ verdict_at (halted_at t f) →

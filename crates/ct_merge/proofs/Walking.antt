@@ -1,27 +1,69 @@
--- What logs expect, tested along a run.
-use Rattle.std.proofs.Common.{◌≡◌, ◌≢◌, ℕ, zero, suc, ◌+◌, ◌<◌, ◌≤◌, ◌==◌, ◌&&◌, Bool, true, false, not, List, [], ◌∷◌, ◌++◌, length}
-use Rattle.std.proofs.Common.{Option, Some, None, inl, inr, ap, sym, subst, ◌∙◌, refl, arith, append_assoc, append-nil, length-append}
-use Rattle.std.proofs.Common.{take, drop, leb-true, nat_le, get_or}
+-- What logs expect, in their order, tested along a run.
+use Rattle.std.proofs.Common.{◌≡◌, ℕ, zero, suc, ◌+◌, ◌<◌, ◌≤◌, List, [], ◌∷◌, ◌++◌, Some, length, ap, sym, refl, ◌∙◌, inl, inr, arith, ◌≢◌}
+use Rattle.std.proofs.Common.{◌==◌, ◌&&◌, Bool, true, false, not, Option, None, subst, append_assoc, append-nil, length-append, take, drop}
+use Rattle.std.proofs.Common.{leb-true, nat_le, get_or}
 use Rattle.std.specs.Prelude.{slice_get, is_some, option_map, IfSome}
-use Rattle.std.proofs.lemmas.Bool.{cases_eq}
+use Rattle.ct_model.proofs.Basics.Options.{some-none, some-same}
+use Rattle.ct_merge.specs.Expected.{AreWithin, AllHold, AreOrdered, Expecting, Holds, IsMet, IsMetIn, IsUnmet, behind, expected_of}
+use Rattle.ct_merge.specs.Expected.{or_whole}
+use Rattle.ct_merge.specs.declared.expectation.Expectation.{Expectation}
+use Rattle.ct_merge.proofs.Moments.{get_below, get_one, get_last, get_there, no_own, own_front}
+use Rattle.ct_merge.proofs.SentOnce.{get_cases}
+use Rattle.std.proofs.lemmas.Bool.{and_parts, cases_eq}
+use Rattle.std.proofs.lemmas.Option.{slice_get-get_or, slice_get_past}
 use Rattle.std.proofs.lemmas.Bool.Decides.{nat_tests}
 use Rattle.ct_names.specs.Group.{is_member}
 use Rattle.ct_model.specs.Actor.{actor}
 use Rattle.ct_model.specs.Rehearsal.{Rehearsal, extended}
 use Rattle.ct_model.specs.declared.step.Step.{Step}
-use Rattle.ct_model.proofs.Basics.Options.{some-same, some-none}
+use Rattle.ct_model.proofs.Basics.Tests.{self_number}
 use Rattle.ct_play.specs.Played.{Played, with_step}
 use Rattle.ct_grammar.specs.Sides.{whole}
-use Rattle.ct_merge.specs.Expected.{AllHold, AreOrdered, Expecting, Holds, IsMet, IsMetIn, IsUnmet, behind, expected_of, or_whole}
 use Rattle.ct_merge.specs.Logs.{Moment, is_own, is_repeat, own}
 use Rattle.ct_merge.specs.Merging.{count_of}
 use Rattle.ct_merge.specs.Testing.{AreFrom, AreMet, AreTested, Fails, FailsBefore, GoesOnTo, IsFailing, IsTested, StaysTested, Walked}
-use Rattle.ct_merge.specs.declared.expectation.Expectation.{Expectation}
 use Rattle.ct_merge.specs.declared.testing.Unmet.{Unmet}
 use Rattle.ct_merge.proofs.Advancing.{positive}
-use Rattle.ct_merge.proofs.Moments.{get_below, get_last, get_there, no_own, own_front}
 use Rattle.ct_merge.proofs.Owning.{at, longer, own_joins, own_stays}
 use Rattle.ct_merge.proofs.Sameness.{below_or_not}
+
+pub within_none : (acts : ℕ) → AreWithin [] acts
+within_none acts = record { ordered = λ i j d e le a b. some-none d a; within = λ i e a. some-none e a }
+
+pub within_later : (list : List Expectation) (acts : ℕ) → AreWithin list acts → AreWithin list (acts + 1)
+within_later list acts h = record {
+  ordered = h.ordered;
+  within = λ i e a. let low : e.place ≤ acts = h.within i e a in omega (arith, low);
+}
+
+module _ (list : List Expectation) (acts : ℕ) (e : Expectation) (place : e.place ≡ acts) (h : AreWithin list acts) where
+  last_within : (i : ℕ) (d : Expectation) → slice_get (list ++ e ∷ []) i ≡ Some d → d.place ≤ acts
+  last_within i d a = elim (get_cases list (e ∷ []) i d a) [
+    | inl b ↦ h.within i d b.1
+    | inr b ↦
+        let f = get_one e d b.0 b.2 in
+        let same : d.place ≡ acts = ap (λ (x : Expectation). x.place) f.1 ∙ place in
+        omega (arith, same)
+  ]
+
+  last_ordered : (i j : ℕ) (d f : Expectation) → i ≤ j → slice_get (list ++ e ∷ []) i ≡ Some d → slice_get (list ++ e ∷ []) j ≡ Some f →
+      d.place ≤ f.place
+  last_ordered i j d f le a b = elim (get_cases list (e ∷ []) j f b) [
+    | inl old ↦
+        let low : j < length list = get_below list j f old.1 in
+        elim (get_cases list (e ∷ []) i d a) [
+          | inl first ↦ h.ordered i j d f le first.1 old.1
+          | inr past ↦ absurd (let at : i ≡ length list + past.0 = past.1 in omega (arith, low, le, at))
+        ]
+    | inr new ↦
+        let one = get_one e f new.0 new.2 in
+        let same : f.place ≡ acts = ap (λ (x : Expectation). x.place) one.1 ∙ place in
+        let low : d.place ≤ acts = last_within i d a in
+        omega (arith, same, low)
+  ]
+
+  pub within_more : AreWithin (list ++ e ∷ []) acts
+  within_more = record { ordered = last_ordered; within = last_within }
 
 -- ---- lists
 
@@ -32,24 +74,7 @@ get_none xs i j x none le there =
     let found = get_there xs i (omega (arith, low, le)) in
     some-none found.0 (sym none ∙ found.1)
 
-get_past : {A : Type 0} (xs : List A) → slice_get xs (length xs) ≡ None
-get_past [] = refl
-get_past (x ∷ xs) = get_past xs
-
-pub get_beyond : {A : Type 0} (xs : List A) (i : ℕ) → length xs ≤ i → slice_get xs i ≡ None
-get_beyond [] i le = refl
-get_beyond (x ∷ xs) zero le = absurd (omega arith)
-get_beyond (x ∷ xs) (suc i) le = get_beyond xs i (omega arith)
-
-pub got : {A : Type 0} (xs : List A) (i : ℕ) (x : A) → i < length xs → x ≡ get_or xs i x → slice_get xs i ≡ Some x
-got [] i x low e = absurd (omega (arith, low))
-got (y ∷ xs) zero x low e = ap (λ z. Some z) (sym e)
-got (y ∷ xs) (suc i) x low e = got xs i x (omega (arith, low)) e
-
-pub got_or : {A : Type 0} (xs : List A) (i : ℕ) (d : A) → i < length xs → slice_get xs i ≡ Some (get_or xs i d)
-got_or [] i d low = absurd (omega (arith, low))
-got_or (y ∷ xs) zero d low = refl
-got_or (y ∷ xs) (suc i) d low = got_or xs i d (omega (arith, low))
+pub ruleset got_or = (slice_get-get_or)
 
 -- ---- one member's
 
@@ -115,15 +140,12 @@ here v w step p on mine =
     let found : slice_get (own w p) k ≡ Some (at v step) = subst (λ x. slice_get (own x p) k ≡ Some (at v step)) same later in
     ap (or_whole w (length (own w p) == k)) found
 
-same_number : (n : ℕ) → (n == n) ≡ true
-same_number n = grind (arith, nat_tests)
-
 -- so is the whole record in the end
 pub in_the_end : (w : Rehearsal) (p : ℕ) → behind w p (length (own w p)) ≡ Some w
 unfolding behind
 in_the_end w p =
-    ap (or_whole w (length (own w p) == length (own w p))) (get_past (own w p))
-    ∙ ap (λ b. or_whole w b None) (same_number (length (own w p)))
+    ap (or_whole w (length (own w p) == length (own w p))) (slice_get_past (own w p) (length (own w p)) (omega arith))
+    ∙ ap (λ b. or_whole w b None) (self_number (length (own w p)))
 
 other_number : (n k : ℕ) → n < k → (n == k) ≡ false
 other_number n k less = grind (arith, nat_tests)
@@ -132,7 +154,7 @@ other_number n k less = grind (arith, nat_tests)
 pub never : (w : Rehearsal) (p k : ℕ) → length (own w p) < k → behind w p k ≡ None
 unfolding behind
 never w p k less =
-    ap (or_whole w (length (own w p) == k)) (get_beyond (own w p) k (omega (arith, less)))
+    ap (or_whole w (length (own w p) == k)) (slice_get_past (own w p) k (omega (arith, less)))
     ∙ ap (λ b. or_whole w b None) (other_number (length (own w p)) k less)
 
 -- what is met at its place holds
@@ -220,46 +242,12 @@ pub nobody : (v : Rehearsal) (step : Step) (n : ℕ) → (not (is_repeat step) &
     (q : ℕ) → is_member n q ≡ true → is_own q (at v step) ≡ false
 nobody v step n other q in_group = nobody_by v step n q (is_repeat step) refl other in_group
 
-both_of : (a b : Bool) → (a && b) ≡ true → (a ≡ true) × (b ≡ true)
-both_of true b e = (refl, e)
-both_of false b e = absurd (cc)
-
--- else it is its member's
-pub somebody : (step : Step) (n : ℕ) → (not (is_repeat step) && is_member n (actor step)) ≡ true →
-    (not (is_repeat step) ≡ true) × (is_member n (actor step) ≡ true)
-somebody step n it = both_of (not (is_repeat step)) (is_member n (actor step)) it
-
 -- who is a member of a group is no larger
 pub few : (repeats : Bool) (n p most : ℕ) → (not repeats && is_member n p) ≡ true → n ≤ most → p ≤ most
 few repeats n p most it le =
-    let within : is_member n p ≡ true = (both_of (not repeats) (is_member n p) it).1 in
-    let low : p ≤ n = leb-true p n (both_of (nat_le 1 p) (nat_le p n) within).1 in
+    let within : is_member n p ≡ true = (and_parts (not repeats) (is_member n p) it).1 in
+    let low : p ≤ n = leb-true p n (and_parts (nat_le 1 p) (nat_le p n) within).1 in
     omega (arith, low, le)
-
-passed_in : (old new : Walked) (step : Step) (expected : List Expecting) → old.stage.sides ≡ whole →
-    new.stage ≡ with_step old.stage step → not (is_repeat step) ≡ true →
-    count_of new.taken (actor step) ≡ count_of old.taken (actor step) + 1 →
-    ((q : ℕ) → 1 ≤ q → q ≢ actor step → count_of new.taken q ≡ count_of old.taken q) →
-    ((q : ℕ) → 1 ≤ q → q ≢ actor step → count_of new.tested q ≡ count_of old.tested q) →
-    AreMet (expected_of expected (actor step)) (count_of old.tested (actor step)) (count_of new.tested (actor step))
-    (count_of old.taken (actor step)) old.stage →
-    (AreFrom (expected_of expected (actor step)) (count_of old.tested (actor step)) (count_of old.taken (actor step)) →
-    AreFrom (expected_of expected (actor step)) (count_of new.tested (actor step)) (count_of old.taken (actor step) + 1)) →
-    StaysTested old step expected new
-passed_in old new step expected uncut next acts taken others same met ahead w on before q in_group =
-    elim (cases_eq q (actor step)) as (λ _. IsTested w (expected_of expected q) new q) [
-      | inl is ↦
-          let mine : is_own (actor step) (at old.stage.rehearsal step) ≡ true =
-          its_own (actor step) (is_repeat step) (let e : is_repeat step ≡ false = grind arith in e) in
-          let tested : IsTested w (expected_of expected (actor step)) old (actor step) =
-          subst (λ x. IsTested w (expected_of expected x) old x) is (before q in_group) in
-          subst (λ x. IsTested w (expected_of expected x) new x) (sym is)
-          (goes old new step next w (actor step) (expected_of expected (actor step)) on mine uncut taken met (ahead tested.ahead) tested)
-      | inr ne ↦
-          let some : 1 ≤ q = positive w.setting.members q in_group in
-          stays old new step next w q (expected_of expected q) (not_own q (actor step) (is_repeat step) ne) (others q some ne)
-          (same q some ne) (before q in_group)
-    ]
 
 -- an own step of a member, of which this is expected
 pub passed_own : (old new : Walked) (step : Step) (expected : List Expecting) (list : List Expectation) →
@@ -271,12 +259,22 @@ pub passed_own : (old new : Walked) (step : Step) (expected : List Expecting) (l
     (AreFrom list (count_of old.tested (actor step)) (count_of old.taken (actor step)) →
     AreFrom list (count_of new.tested (actor step)) (count_of old.taken (actor step) + 1)) →
     StaysTested old step expected new
-passed_own old new step expected list is uncut next acts taken others same met ahead =
-    let p = actor step in
-    passed_in old new step expected uncut next acts taken others same
-    (subst (λ l. AreMet l (count_of old.tested p) (count_of new.tested p) (count_of old.taken p) old.stage) is met)
-    (subst (λ l. AreFrom l (count_of old.tested p) (count_of old.taken p) → AreFrom l (count_of new.tested p) (count_of old.taken p + 1))
-    is ahead)
+passed_own old new step expected list is uncut next acts taken others same met ahead w on before q in_group =
+    elim (cases_eq q (actor step)) as (λ _. IsTested w (expected_of expected q) new q) [
+      | inl mine_is ↦
+          let mine : is_own (actor step) (at old.stage.rehearsal step) ≡ true =
+          its_own (actor step) (is_repeat step) (let e : is_repeat step ≡ false = grind arith in e) in
+          let lists : list ≡ expected_of expected q = is ∙ ap (expected_of expected) (sym mine_is) in
+          let tested : IsTested w list old (actor step) =
+          subst (λ l. IsTested w l old (actor step)) (sym lists)
+          (subst (λ x. IsTested w (expected_of expected q) old x) mine_is (before q in_group)) in
+          subst (λ l. IsTested w l new q) lists (subst (λ x. IsTested w list new x) (sym mine_is)
+          (goes old new step next w (actor step) list on mine uncut taken met (ahead tested.ahead) tested))
+      | inr ne ↦
+          let some : 1 ≤ q = positive w.setting.members q in_group in
+          stays old new step next w q (expected_of expected q) (not_own q (actor step) (is_repeat step) ne) (others q some ne)
+          (same q some ne) (before q in_group)
+    ]
 
 -- what is expected before it fails
 pub failed_before : (old new : Walked) (step : Step) (expected : List Expecting) (list : List Expectation) →

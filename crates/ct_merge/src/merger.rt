@@ -46,7 +46,7 @@ impl Model for Merger {
 
 impl Merger {
     /// No log has a line. Only memory can be refused.
-    #[tactic(auto, using(crate::proofs::Advancing::nothing_taken, crate::proofs::Growing::none_in))]
+    #[tactic(auto, using(crate::proofs::Advancing::nothing_taken, crate::proofs::Advancing::none_in))]
     pub fn new(alloc: Global, setup: Setup) -> Result<Merger, LineFault>
         ensures setting { IfOk result (λ m. m.setting ≡ setting_of setup) }
         ensures cells { IfOk result (λ m. m.cells ≡ setup.cells) }
@@ -106,7 +106,7 @@ impl Merger {
     /// Takes lines that can be taken: an envelope is received once it was sent. Else a line is told that is refused by itself, whatever
     /// lines these logs go on with, or at which a limit is in the way ([`Why::is_limit`](crate::Why::is_limit)), and the logs. How far the
     /// lines go is open; [`end`](Merger::end) takes the others.
-    #[tactic(auto, using(crate::proofs::Growing::same_group, crate::proofs::Halting::is_culprit, crate::proofs::Failing::fault_none))]
+    #[tactic(auto, using(crate::proofs::Advancing::same_group, crate::proofs::Halting::is_culprit, crate::proofs::Failing::fault_none))]
     pub fn go_on(self) -> Result<Result<Merger, (Culprit, Vec<Vec<LogLine>>)>, LineFault>
         ensures same { IfOk result (λ gone. IfOk gone (λ m. m ≡ self)) }
         ensures culprit { IfOk result (λ gone. IfErr gone (λ halt. IsCulprit self.setting self.cells self.logs halt.0)) }

@@ -233,7 +233,7 @@ impl Taker {
     }
 
     // Takes the step.
-    #[tactic(auto, using(crate::proofs::Playing::allowed, crate::proofs::Playing::refused, crate::proofs::Addresses::index_same))]
+    #[tactic(auto, using(crate::proofs::Stopping::allowed, crate::proofs::Stopping::step_refused, crate::proofs::Addresses::index_same))]
     fn step(&mut self, step: Step) -> Result<(), LineFault>
         ensures joined { OnOk result (self.new ≡ extended self.old step) }
         ensures allowed { OnOk result (cause self.old step ≡ None) }

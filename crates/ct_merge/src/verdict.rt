@@ -2,7 +2,7 @@
 
 ghost use Rattle.std.specs.Prelude.{◌≡◌};
 ghost use Rattle.ct_merge.specs.Verdicts.{verdict_at};
-ghost use Rattle.ct_merge.specs.Waits.{is_limit, is_wait};
+ghost use Rattle.ct_merge.specs.Waits.{is_limit};
 
 use crate::own_fault::OwnFault;
 use ct_names::Member;
@@ -60,13 +60,6 @@ pub enum Why {
 }
 
 impl Why {
-    /// Whether the line stands for an envelope that was not sent.
-    pub fn is_wait(&self) -> bool
-        ensures { result ≡ is_wait self.now }
-    {
-        !matches!(self, Why::Fault(_))
-    }
-
     /// Whether a limit is in the way of the line.
     pub fn is_limit(&self) -> bool
         ensures { result ≡ is_limit self.now }

@@ -1,5 +1,5 @@
 use Rattle.ct_merge.proofs.Circles.{refused_none}
-use Rattle.ct_merge.proofs.Waiting.{waiting_none}
+use Rattle.ct_merge.proofs.Held.{waiting_none}
 use Rattle.ct_merge.proofs.laws.law_stopped.Goals as goal
 
 pub returns-clause-refused : goal.returns-clause-refused

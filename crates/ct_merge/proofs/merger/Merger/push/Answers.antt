@@ -1,5 +1,5 @@
 use Rattle.std.proofs.Common.{◌∙◌}
-use Rattle.ct_merge.proofs.Growing.{grown}
+use Rattle.ct_merge.proofs.Advancing.{grown}
 use Rattle.ct_merge.proofs.merger.Merger.push.Goals as goal
 
 pub invariant_of-self : goal.invariant_of-self

@@ -6,7 +6,7 @@ use Rattle.ct_model.specs.Rehearsal.{extended, state_of}
 use Rattle.ct_play.specs.Played.{Played}
 use Rattle.ct_merge.specs.contracts.address.AddressPartialEq.TheImpl.{ghosts as equal}
 use Rattle.ct_merge.proofs.Addresses.{few_sent, index_kept, index_same}
-use Rattle.ct_merge.proofs.Playing.{allowed}
+use Rattle.ct_merge.proofs.Stopping.{allowed}
 use Rattle.ct_merge.proofs.taker.Taker.step.Goals as goal
 
 pub note-requires-clause-room : goal.note-requires-clause-room

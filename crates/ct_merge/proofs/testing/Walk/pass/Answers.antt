@@ -1,10 +1,11 @@
 use Rattle.std.proofs.Common.{◌≡◌, ◌∙◌, ◌&&◌, not, true, false, ap, sym, subst}
+use Rattle.std.proofs.lemmas.Bool.{and_parts}
 use Rattle.ct_names.specs.Group.{is_member}
 use Rattle.ct_model.specs.Actor.{actor}
 use Rattle.ct_merge.specs.Expected.{expected_of}
 use Rattle.ct_merge.specs.Logs.{is_repeat}
 use Rattle.ct_merge.specs.Testing.{Walked}
-use Rattle.ct_merge.proofs.Walking.{failed_before, nobody, passed_other, passed_own, somebody}
+use Rattle.ct_merge.proofs.Walking.{failed_before, nobody, passed_other, passed_own}
 use Rattle.ct_merge.proofs.testing.Walk.pass.Goals as goal
 
 pub returns-then-is_of_member-clause-tested : goal.returns-then-is_of_member-clause-tested
@@ -12,7 +13,7 @@ returns-then-is_of_member-clause-tested c =
     let old = c.args.self.now in
     let step = c.args.step in
     let own =
-    somebody step old.stage.rehearsal.setting.members
+    and_parts (not (is_repeat step)) (is_member old.stage.rehearsal.setting.members (actor step))
     (subst (λ (x : Walked). (not (is_repeat step) && is_member x.stage.rehearsal.setting.members (actor step)) ≡ true) c.self.view_is
     (sym c.is_of_member.ensures.value ∙ c.if-is_of_member.true)) in
     let list : c.list_of.result.now ≡ expected_of c.args.expected.now (actor step) =
@@ -26,7 +27,7 @@ returns-then-is_of_member-clause-fails c =
     let old = c.args.self.now in
     let step = c.args.step in
     let own =
-    somebody step old.stage.rehearsal.setting.members
+    and_parts (not (is_repeat step)) (is_member old.stage.rehearsal.setting.members (actor step))
     (subst (λ (x : Walked). (not (is_repeat step) && is_member x.stage.rehearsal.setting.members (actor step)) ≡ true) c.self.view_is
     (sym c.is_of_member.ensures.value ∙ c.if-is_of_member.true)) in
     let list : c.list_of.result.now ≡ expected_of c.args.expected.now (actor step) =
