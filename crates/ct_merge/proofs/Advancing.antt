@@ -1,5 +1,5 @@
 -- Lines of several logs, which may grow.
-use Rattle.std.proofs.Common.{◌≡◌, ◌≢◌, ℕ, ◌≤◌, ◌&&◌, Bool, true, false, List, [], inl, inr, ap, sym, subst, ◌∙◌, refl, arith, leb-true}
+use Rattle.std.proofs.Common.{◌≡◌, ◌≢◌, ℕ, ◌≤◌, true, List, [], inl, inr, ap, sym, subst, ◌∙◌, arith, leb-true}
 use Rattle.std.proofs.Common.{nat_le, ◌-◌, take, ◌++◌, ◌∷◌, append-nil, length-append}
 use Rattle.std.specs.Prelude.{filter, slice_index, All, OnErr, OnOk, Result, Ok, Err}
 use Rattle.std.specs.Global.{Vec}

@@ -17,12 +17,11 @@ use Rattle.ct_merge.specs.Deeds.{IsSame}
 use Rattle.ct_merge.specs.Local.{IsLike}
 use Rattle.ct_merge.specs.Logs.{IsLog, IsMerge, IsTold, Moment, log_of, own}
 use Rattle.ct_merge.specs.Names.{full_name}
-use Rattle.ct_merge.specs.Runs.{IsBegun, IsNamed, IsRun}
+use Rattle.ct_merge.specs.Runs.{IsBegun, IsRun}
 use Rattle.ct_merge.specs.declared.full_name.FullName.{FullName}
 use Rattle.ct_merge.specs.declared.log_act.LogAct.{LogAct}
 use Rattle.ct_merge.specs.declared.log_line.LogLine.{LogLine}
 use Rattle.ct_merge.proofs.SentOnce.{one_receipt}
-use Rattle.ct_merge.proofs.Posting.{is_named}
 use Rattle.ct_merge.proofs.Sameness.{Acts, AreSame, like_there, same_deeds}
 use Rattle.ct_merge.proofs.Telling.{IsReceipt, wire_named}
 

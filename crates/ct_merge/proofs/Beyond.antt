@@ -1,6 +1,6 @@
 -- Lines that are never taken: no run of the lines of logs goes beyond one.
-use Rattle.std.proofs.Common.{◌≡◌, ℕ, ◌<◌, ◌≤◌, ◌&&◌, true, false, ◌++◌, Option, Some, length, inl, inr, refl, sym, ap, ap₂, ◌∙◌, subst}
-use Rattle.std.proofs.Common.{arith, ◌+◌, Bool, List, length-append, IfSome}
+use Rattle.std.proofs.Common.{◌≡◌, ℕ, ◌<◌, ◌≤◌, true, false, ◌++◌, Option, Some, length, inl, inr, refl, sym, ap, ap₂, ◌∙◌, subst}
+use Rattle.std.proofs.Common.{arith, ◌+◌, Bool, List, IfSome}
 use Rattle.std.specs.Prelude.{slice_get, option_map}
 use Rattle.ct_names.specs.Group.{IsMember}
 use Rattle.ct_model.specs.Actor.{actor}
@@ -27,8 +27,7 @@ use Rattle.ct_merge.specs.Unable.{IsOfGroup, SendsNoMore}
 use Rattle.ct_grammar.specs.declared.carried.Carried.{Carried}
 use Rattle.ct_merge.specs.declared.full_name.FullName.{FullName}
 use Rattle.ct_merge.specs.declared.log_act.LogAct.{LogAct}
-use Rattle.ct_merge.specs.declared.log_act.LogAct.TheVariants.{Submit, Receive, Begin, Enter, Choose, Adopt, Suspect, Conclude, Deliver}
-use Rattle.ct_merge.specs.declared.log_act.LogAct.TheVariants.{Follow, Crash}
+use Rattle.ct_merge.specs.declared.log_act.LogAct.TheVariants.{Receive}
 use Rattle.ct_merge.proofs.Local.{next_outcome, outcome_local, outcome_is}
 use Rattle.ct_merge.proofs.Moments.{get_below, get_last, get_there, placed, no_own, own_actor, own_front}
 use Rattle.ct_merge.proofs.Unable.{NoMoreIn, no_more_sends}

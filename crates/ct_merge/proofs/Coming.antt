@@ -11,9 +11,9 @@ use Rattle.ct_names.specs.Group.{coordinator, is_member, IsMember}
 use Rattle.ct_names.specs.Membership.{IsIn}
 use Rattle.ct_names.proofs.Lists
 use Rattle.ct_model.specs.Actor.{actor}
-use Rattle.ct_model.specs.AtValue.{Standing, Turn, Wire}
+use Rattle.ct_model.specs.AtValue.{Standing, Wire}
 use Rattle.ct_model.specs.Mapped.{wire_map, without_value}
-use Rattle.ct_model.specs.Next.{Outcome, crash, line_row, next, plain, receive, round_row, row, submit, turn_at}
+use Rattle.ct_model.specs.Next.{Outcome, crash, next, plain, receive, row, submit, turn_at}
 use Rattle.ct_model.specs.Next.{wire_to}
 use Rattle.ct_names.specs.Command.{is_good}
 use Rattle.ct_model.specs.Received.{decided}

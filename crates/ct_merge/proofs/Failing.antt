@@ -28,7 +28,7 @@ use Rattle.ct_merge.specs.Barred.{IsBarred, IsThere}
 use Rattle.ct_merge.specs.Barred.IsBarred.{down, refused}
 use Rattle.ct_merge.specs.Logs.{own}
 use Rattle.ct_merge.specs.Merging.{step_of}
-use Rattle.ct_merge.specs.Runs.{IsNamed, IsRun}
+use Rattle.ct_merge.specs.Runs.{IsRun}
 use Rattle.ct_merge.specs.Stops.{Differs, IsAsked, IsCulprit, IsFaultAt, IsRepetition, IsWhy, Tells}
 use Rattle.ct_merge.specs.Waits.{NeverMerges, is_full, is_limit, is_wait}
 use Rattle.ct_merge.specs.declared.full_name.FullName.{FullName}
@@ -43,7 +43,6 @@ use Rattle.ct_merge.specs.declared.verdict.Why.{Why}
 use Rattle.ct_merge.specs.declared.verdict.Why.TheVariants.{Fault}
 use Rattle.ct_merge.proofs.Held.{one_held}
 use Rattle.ct_merge.proofs.Local.{acts_of}
-use Rattle.ct_merge.proofs.Posting.{is_named}
 use Rattle.ct_merge.proofs.SentOnce.{one_receipt}
 use Rattle.ct_merge.proofs.Telling.{IsReceipt, IsToldStep, receipt_by, told_step}
 

@@ -1,16 +1,15 @@
 -- Logs of which none goes on, or with lines that are never taken, have no merge.
-use Rattle.std.proofs.Common.{◌≡◌, ℕ, ◌<◌, true, List, Some, length, take, refl, sym, ap, ◌∙◌, subst, arith, ◌+◌, ◌≤◌, ◌==◌, Bool}
-use Rattle.std.proofs.Common.{length-append}
+use Rattle.std.proofs.Common.{◌≡◌, ℕ, ◌<◌, true, List, Some, length, take, refl, sym, ap, ◌∙◌, subst, arith, ◌==◌, Bool}
 use Rattle.std.specs.Prelude.{is_some, slice_get}
 use Rattle.std.specs.Global.{Vec}
-use Rattle.std.proofs.lemmas.List.{length-take-le, take-append-le}
+use Rattle.std.proofs.lemmas.List.{length-take-le}
 use Rattle.ct_names.specs.Group.{IsMember, is_member}
 use Rattle.ct_model.specs.Rehearsal.{Rehearsal}
 use Rattle.ct_model.specs.Setting.{Setting}
 use Rattle.ct_model.proofs.Basics.Groups.{member_is}
 use Rattle.ct_merge.specs.Barred.{IsBarred, IsThere}
 use Rattle.ct_merge.specs.Barred.IsBarred.{waits}
-use Rattle.ct_merge.specs.Logs.{IsTold, log_of, own, IsLog}
+use Rattle.ct_merge.specs.Logs.{IsTold, log_of, own}
 use Rattle.ct_merge.specs.Merging.{IsTakenFrom, IsTakenTo, Taken, count_of}
 use Rattle.ct_merge.specs.Runs.{IsBegun, IsRun}
 use Rattle.ct_merge.specs.Waits.{AllWait, HasNoMerge, IsUnsent, SomeWaits, AllBegin, NeverMerges}

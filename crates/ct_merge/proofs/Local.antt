@@ -11,8 +11,7 @@ use Rattle.ct_model.proofs.Relay.Messages.{IsStep}
 use Rattle.ct_merge.specs.Local.{outcome_of, IsLike, gets}
 use Rattle.ct_merge.specs.Merging.{step_of}
 use Rattle.ct_merge.specs.declared.log_act.LogAct.{LogAct}
-use Rattle.ct_merge.specs.declared.log_act.LogAct.TheVariants.{Submit, Receive, Begin, Enter, Choose, Adopt, Suspect, Conclude, Deliver}
-use Rattle.ct_merge.specs.declared.log_act.LogAct.TheVariants.{Follow, Crash}
+use Rattle.ct_merge.specs.declared.log_act.LogAct.TheVariants.{Submit, Receive}
 
 pub acts_of : (p k : ℕ) (act : LogAct) → actor (step_of p k act) ≡ p
 acts_of p k (Submit c) = refl

@@ -1,6 +1,6 @@
 -- The own steps of members in a run.
 use Rattle.std.proofs.Common.{◌≡◌, ℕ, zero, suc, ◌+◌, ◌<◌, ◌==◌, ◌&&◌, Bool, true, false, not, List, [], ◌∷◌, ◌++◌, Some}
-use Rattle.std.proofs.Common.{length, length-append, inl, inr, ◌⊎◌, refl, sym, ap, ◌∙◌, subst, arith, replicate}
+use Rattle.std.proofs.Common.{length, inl, inr, ◌⊎◌, refl, sym, ap, ◌∙◌, subst, arith, replicate}
 use Rattle.std.specs.Prelude.{slice_get}
 use Rattle.std.proofs.lemmas.Bool.Decides.{nat_tests}
 use Rattle.ct_names.specs.Group.{IsMember}
@@ -48,7 +48,7 @@ get_there [] i h = absurd (omega arith)
 get_there (y ∷ xs) zero h = (y, refl)
 get_there (y ∷ xs) (suc i) h = get_there xs i (omega arith)
 
-pub get_one : {A : Type 0} (x y : A) (i : ℕ) → slice_get (x ∷ []) i ≡ Some y → (i ≡ 0) × (y ≡ x)
+get_one : {A : Type 0} (x y : A) (i : ℕ) → slice_get (x ∷ []) i ≡ Some y → (i ≡ 0) × (y ≡ x)
 get_one x y zero e = (refl, sym (some-same x y e))
 get_one x y (suc i) e = some-none y e
 

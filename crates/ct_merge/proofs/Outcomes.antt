@@ -1,7 +1,6 @@
 -- What a step came to is the same in two runs that find its member alike.
 use Rattle.std.proofs.Common.{◌≡◌, ℕ, zero, suc, ◌+◌, Bool, true, false, List, [], ◌∷◌, ◌++◌, Option, Some, None, length}
 use Rattle.std.proofs.Common.{refl, sym, ap, ◌∙◌, subst, arith}
-use Rattle.std.proofs.lemmas.Bool.Decides.{nat_tests}
 use Rattle.std.specs.Prelude.{slice_get, option_map, option_and_then, unwrap_or, is_some, if◌then◌else◌}
 use Rattle.ct_names.specs.Batch.{Batch}
 use Rattle.ct_names.specs.Group.{IsMember, is_member}
@@ -62,10 +61,6 @@ module _ (w v : Rehearsal) (p : ℕ) (group : w.setting ≡ v.setting) (same : m
   heard_same : (from : ℕ) → value_text (if_member w p (heard_by (member_of w p) from))
       ≡ value_text (if_member v p (heard_by (member_of v p) from))
   heard_same from = ap value_text (if_same (λ m. heard_by m from))
-
-  instance_same : instance_of w p ≡ instance_of v p
-  unfolding instance_of
-  instance_same = ap (λ (o : Option (ℕ × Bool)). (unwrap_or o (0, false)).0) (if_same (λ (m : Member). Some (m.last, is_some m.current)))
 
 -- ---- batches
 

@@ -1,5 +1,5 @@
 -- What own steps send, and the serials of that.
-use Rattle.std.proofs.Common.{◌≡◌, ℕ, zero, suc, ◌+◌, ◌-◌, ◌<◌, true, List, [], ◌++◌, Some}
+use Rattle.std.proofs.Common.{◌≡◌, ℕ, suc, ◌+◌, ◌-◌, ◌<◌, true, List, ◌++◌, Some}
 use Rattle.std.proofs.Common.{length, length-append, inl, inr, refl, sym, ap, ◌∙◌, subst, arith, replicate}
 use Rattle.std.specs.Prelude.{slice_get}
 use Rattle.std.proofs.lemmas.Bool.{cases_Bool}
@@ -15,7 +15,6 @@ use Rattle.ct_model.specs.declared.step.Step.{Step}
 use Rattle.ct_model.proofs.Basics.Options.{some-same, some-none}
 use Rattle.ct_model.proofs.Consensus.Sent.{Carries, carries-mail, get-wire}
 use Rattle.ct_model.proofs.Record.Senders.{at-front}
-use Rattle.ct_model.proofs.Record.Start.{state-first, sent-first}
 use Rattle.ct_model.proofs.Relay.Messages.{IsStep}
 use Rattle.ct_model.proofs.Relay.Relaying.{history-run}
 use Rattle.ct_merge.specs.Deeds.{deed_of, letter, Sends, IsFrom, IsPosted}

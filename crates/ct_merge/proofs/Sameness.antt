@@ -18,13 +18,11 @@ use Rattle.ct_model.proofs.Relay.Messages.{next-is}
 use Rattle.ct_merge.specs.Deeds.{deed_of, letter, Sends, IsPosted, IsSame}
 use Rattle.ct_merge.specs.Local.{outcome_of, IsLike, gets}
 use Rattle.ct_merge.specs.Logs.{Moment, act_of, own}
-use Rattle.ct_merge.specs.Merging.{step_of}
 use Rattle.ct_play.specs.Picking.{carried_of}
 use Rattle.ct_merge.specs.Runs.{IsRun}
 use Rattle.ct_merge.specs.declared.full_name.FullName.{FullName}
 use Rattle.ct_merge.specs.declared.log_act.LogAct.{LogAct}
-use Rattle.ct_merge.specs.declared.log_act.LogAct.TheVariants.{Submit, Receive, Begin, Enter, Choose, Adopt, Suspect, Conclude, Deliver}
-use Rattle.ct_merge.specs.declared.log_act.LogAct.TheVariants.{Follow, Crash}
+use Rattle.ct_merge.specs.declared.log_act.LogAct.TheVariants.{Receive}
 use Rattle.ct_merge.proofs.Local.{outcome_is, outcome_local}
 use Rattle.ct_merge.proofs.Moments.{IsPlaced, IsUpTo, get_below, get_there, like_back, like_on, no_own, own_actor}
 use Rattle.ct_merge.proofs.Moments.{own_cases, own_front, placed, up_to}

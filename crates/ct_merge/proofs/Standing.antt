@@ -1,5 +1,5 @@
 -- Logs that stand.
-use Rattle.std.proofs.Common.{◌≡◌, ℕ, zero, suc, ◌≤◌, ◌<◌, Bool, true, false, List, Option, Some, None, Err, inl, inr, length}
+use Rattle.std.proofs.Common.{◌≡◌, ℕ, zero, suc, ◌≤◌, ◌<◌, Bool, true, false, List, Option, Some, None, Err, inl, length}
 use Rattle.std.proofs.Common.{slice_get, ap, sym, subst, ◌∙◌, arith, refl}
 use Rattle.std.specs.Global.{Vec}
 use Rattle.ct_merge.specs.Logs.{log_of}

@@ -1,6 +1,6 @@
 -- Lines that are taken.
 use Rattle.std.proofs.Common.{◌≡◌, ◌≢◌, ℕ, ◌+◌, ◌<◌, ◌==◌, Bool, true, false, ◌&&◌, List, [], ◌∷◌, ◌++◌, Some, None, IfSome}
-use Rattle.std.proofs.Common.{ap, sym, ◌∙◌, refl, length, take, get_or, arith, subst, length-append, zero, suc}
+use Rattle.std.proofs.Common.{ap, sym, ◌∙◌, refl, length, take, arith, subst, length-append}
 use Rattle.std.specs.Prelude.{option_map, slice_get}
 use Rattle.std.specs.List.{AllZip}
 use Rattle.std.proofs.lemmas.Bool.{eq-eqb, ne_eqb}

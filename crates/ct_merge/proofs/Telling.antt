@@ -22,8 +22,7 @@ use Rattle.ct_merge.specs.Names.{full_name, named}
 use Rattle.ct_merge.specs.Runs.{IsNamed}
 use Rattle.ct_merge.specs.declared.full_name.FullName.{FullName}
 use Rattle.ct_merge.specs.declared.log_act.LogAct.{LogAct}
-use Rattle.ct_merge.specs.declared.log_act.LogAct.TheVariants.{Submit, Receive, Begin, Enter, Choose, Adopt, Suspect, Conclude, Deliver}
-use Rattle.ct_merge.specs.declared.log_act.LogAct.TheVariants.{Follow, Crash}
+use Rattle.ct_merge.specs.declared.log_act.LogAct.TheVariants.{Receive}
 
 -- it is the step of p that is told so, and the envelope that it receives is so named
 pub record IsToldStep (w : Rehearsal) (p : ℕ) (step : Step) (act : LogAct) : Type 0 where
