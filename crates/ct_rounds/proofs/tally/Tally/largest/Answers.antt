@@ -6,9 +6,8 @@ use Rattle.ct_rounds.proofs.tally.Tally.largest.Goals as goal
 
 pub bounds-self-inside-from : goal.bounds-self-inside-from
 bounds-self-inside-from c =
-    let there : has_member c.self.inside.heard c.args.from ≡ true = sym c.contains.ensures.value ∙ c.if-contains.true in
-    let member = within-set c.self.inside.heard c.args.from c.self.invariant.heard_is there in
-    omega (arith, member.1)
+    let there = sym c.contains.ensures.value ∙ c.if-contains.true in
+    omega (arith, (within-set c.self.inside.heard c.args.from c.self.invariant.heard_is there).1)
 
 pub returns-then-contains : goal.returns-then-contains
 returns-then-contains c =
