@@ -1,5 +1,8 @@
 -- A diagram is XML.
-use Rattle.std.proofs.Common.{ℕ, zero, suc, ◌+◌, List, length, drop, take, refl, Option, Some, None, [], ◌∷◌, codes}
+use Rattle.std.proofs.Common.{ℕ, zero, suc, ◌+◌, List, length, drop, take, refl, Option, Some, None, [], ◌∷◌}
+use Rattle.std.proofs.Common.{append-nil}
+use Rattle.std.proofs.lemmas.List.Sums.{fold-append}
+use Rattle.std.specs.List.{concat}
 use Rattle.std.specs.Prelude.{slice_get}
 use Rattle.ct_model.specs.Rehearsal.{Rehearsal, extended}
 use Rattle.ct_model.specs.Senders.{senders}
@@ -13,12 +16,11 @@ use Rattle.ct_diagram.specs.declared.window.Window.{Window}
 use Rattle.ct_laws.specs.Xml.{IsXml}
 use Rattle.ct_laws.proofs.Reader.{is_xml}
 use Rattle.ct_laws.proofs.Reader.Reading.{Start, End}
-use Rattle.ct_laws.proofs.DrawnTexts.{Grid, IsInSvg, arrows_read, both_in, if_in, marks_read, shades_read, xml_parts, in_group, in_svg}
-use Rattle.ct_laws.proofs.Reading.{Leads, leads, reads}
+use Rattle.ct_laws.proofs.DrawnTexts.{Grid, IsInSvg, arrows_read, if_in, marks_read, shades_read, xml_parts, in_group, in_svg}
+use Rattle.ct_laws.proofs.Reading.{Leads, leads}
 use Rattle.ct_laws.proofs.Records.{part}
 use Rattle.ct_laws.proofs.Trails.{drawn_at, trail_at}
 use Rattle.ct_diagram.specs.Grid.{row_of}
-use Rattle.ct_laws.proofs.Reading.Piece.{Fixed, Number, Known}
 
 -- ---- the frame
 
@@ -30,15 +32,11 @@ row_reads g row right (suc k) = simp (xml_parts, row_reads g row right k)
 rows_read : (g : Grid) (end k : ℕ) → IsInSvg (Frame.rows_text g end k)
 rows_read g end zero = refl
 rows_read g end (suc k) =
-    both_in (Frame.rows_text g end k) (Frame.row_text g k (Frame.row_end g end k) g.n) (rows_read g end k)
-    (row_reads g k (Frame.row_end g end k) g.n)
+    simp (xml_parts, rows_read g end k, row_reads)
 
 sizes_read : (wide high : ℕ) → Leads Start (Frame.sizes_text wide high) in_svg
 unfolding Frame.sizes_text
-sizes_read wide high =
-    reads Start (Fixed (codes "<svg xmlns='http://www.w3.org/2000/svg' width='") ∷ Number wide ∷ Fixed (codes "' height='") ∷ Number high
-    ∷ Fixed (codes "' viewBox='0 30 ") ∷ Number wide ∷ Fixed (codes " ") ∷ Number high ∷ Fixed (codes "'>\n") ∷ [])
-    (tt, (tt, (tt, (tt, (tt, (tt, (tt, (tt, (tt, tt)))))))))
+sizes_read wide high = simp xml_parts
 
 head_reads : (g : Grid) (end : ℕ) → Leads Start (Frame.head_text g end) in_svg
 head_reads g end =
@@ -47,8 +45,7 @@ head_reads g end =
 
 below_reads : (low : ℕ) → Leads in_svg (Frame.below_text low) in_group
 unfolding Frame.below_text
-below_reads low =
-    reads in_svg (Fixed (codes "<g transform='translate(12 ") ∷ Number low ∷ Fixed (codes ")'>\n") ∷ []) (tt, (tt, (tt, tt)))
+below_reads low = simp xml_parts
 
 legend_reads : Leads in_group Frame.legend_text End
 unfolding Frame.legend_text
@@ -58,13 +55,16 @@ foot_reads : (g : Grid) (end : ℕ) → Leads in_svg (Frame.foot_text g end) End
 foot_reads g end =
     leads in_svg in_group End (Frame.below_text (Frame.low g end)) Frame.legend_text (below_reads (Frame.low g end)) legend_reads
 
+all_read : (head shades rows arrows marks foot : List ℕ) → Leads Start head in_svg → IsInSvg shades → IsInSvg rows → IsInSvg arrows →
+    IsInSvg marks → Leads in_svg foot End → Leads Start (concat (head ∷ shades ∷ rows ∷ arrows ∷ marks ∷ foot ∷ [])) End
+all_read head shades rows arrows marks foot h s r a m f = simp (fold-append, append-nil, h, s, r, a, m, f)
+
 framed_reads : (g : Grid) (end : ℕ) (shades arrows marks : List ℕ) → IsInSvg shades → IsInSvg arrows → IsInSvg marks →
     Leads Start (framed_text g end shades arrows marks) End
 unfolding framed_text
 framed_reads g end shades arrows marks h i j =
-    reads Start (Known (Frame.head_text g end) in_svg ∷ Known shades in_svg ∷ Known (Frame.rows_text g end (row_of g end + 1)) in_svg
-    ∷ Known arrows in_svg ∷ Known marks in_svg ∷ Known (Frame.foot_text g end) End ∷ [])
-    (head_reads g end, (h, (rows_read g end (row_of g end + 1), (i, (j, (foot_reads g end, tt))))))
+    all_read (Frame.head_text g end) shades (Frame.rows_text g end (row_of g end + 1)) arrows marks (Frame.foot_text g end)
+    (head_reads g end) h (rows_read g end (row_of g end + 1)) i j (foot_reads g end)
 
 -- ---- the layers
 
@@ -77,14 +77,13 @@ Reads layer window w = (n : ℕ) (step : Step) →
 next_reads : (layer : Layer) (window : Window) (w : Rehearsal) → Reads layer window w → (n : ℕ) (o : Option Step) →
     IsInSvg (layer_next layer window (part w n) (senders w.setting (take (n + 1) w.steps)) (trail_at window w n) n (drop (n + 1) w.steps) o)
 next_reads layer window w h n None = refl
-next_reads layer window w h n (Some step) = if_in (is_drawn window (n + 1)) _ (h n step)
+next_reads layer window w h n (Some step) = if_in (is_drawn window (n + 1)) _ [] (h n step) refl
 
 layer_reads : (layer : Layer) (window : Window) (w : Rehearsal) → Reads layer window w → (n : ℕ) →
     IsInSvg (first_layer layer window w.setting w.cells w.steps n)
 layer_reads layer window w h zero = refl
 layer_reads layer window w h (suc n) =
-    both_in (first_layer layer window w.setting w.cells w.steps n) _ (layer_reads layer window w h n)
-    (next_reads layer window w h n (slice_get w.steps n))
+    simp (fold-append, layer_reads layer window w h n, next_reads layer window w h n (slice_get w.steps n))
 
 pub diagram_reads : (window : Window) (w : Rehearsal) → IsXml (diagram_text window w)
 diagram_reads window w =

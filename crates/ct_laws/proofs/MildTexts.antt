@@ -1,7 +1,7 @@
 -- What is shown of steps and envelopes is plain text without quotes.
-use Rattle.std.proofs.Common.{ℕ, Bool, true, false, List, [], ◌∷◌, refl}
+use Rattle.std.proofs.Common.{ℕ, List, [], ◌∷◌, refl}
 use Rattle.std.proofs.Common.{Option, Some, None, option_map}
-use Rattle.std.specs.Prelude.{if◌then◌else◌, unwrap_or}
+use Rattle.std.specs.Prelude.{unwrap_or}
 use Rattle.ct_names.specs.Message.{Message}
 use Rattle.ct_names.specs.Value.{Value}
 use Rattle.ct_names.specs.declared.command.Command.{Command}
@@ -22,13 +22,9 @@ use Rattle.ct_show.specs.Shapes
 use Rattle.ct_show.specs.Wires
 use Rattle.ct_text.specs.Shapes as pieces
 use Rattle.ct_text.specs.Standing as standing
-use Rattle.ct_laws.proofs.Reading.{IsMild, decimal_mild, mild_both}
+use Rattle.ct_laws.proofs.Reading.{IsMild, decimal_mild, if_mild, mild_both}
 
 -- ---- numbers, messages, values, commands
-
-pub if_mild : (b : Bool) (one other : List ℕ) → IsMild one → IsMild other → IsMild (if b then one else other)
-if_mild true one other h k = h
-if_mild false one other h k = k
 
 pub ruleset mild_parts = (mild_both, decimal_mild, if_mild)
 

@@ -22,7 +22,7 @@ use Rattle.ct_diagram.specs.declared.window.Window.{Window}
 use Rattle.ct_laws.specs.Diagrams.{Arrow, BeginsOnce, Drawn, EndsOnce, HasArrows, IsArrow, IsEnd, IsWay}
 use Rattle.ct_laws.specs.Diagrams.{KnowsSent, drawn_of, puts_at, sent_by, takes_at, text_of_arrow}
 use Rattle.ct_laws.proofs.ArrowTexts.{has_line}
-use Rattle.ct_laws.proofs.ArrowWays.{begins_one, ends_one, has_arrows, knows_sent}
+use Rattle.ct_laws.proofs.ArrowWays.{begins_one, ends_one, has_arrows, knows_sent, part_within}
 use Rattle.ct_laws.proofs.DrawnArrows.{DrawnArrow, IsDrawnArrow, IsDrawnEnd, IsDrawnWay, text_of_drawn}
 use Rattle.ct_laws.proofs.Records.{within}
 use Rattle.ct_laws.proofs.Waits.{mail_sent, mail_taken}
@@ -484,3 +484,5 @@ ends_once window w all end n k drawn h asked =
           (ap (λ (a : Arrow). a.to) r.same ∙ so.2 ∙ ap Some (sym t.number)) in
           sym r.same ∙ ap numbered (one.only r.drawn (r.is, ap (λ (a : Arrow). a.serial) r.same ∙ so.1, to));
     }
+
+pub ruleset of_arrows = (has_steps, part_within, numbered_arrows, knows_numbered, begins_once, ends_once)

@@ -31,10 +31,12 @@ use Rattle.ct_laws.specs.Tries.{entries_in, first_answers, tried_in}
 use Rattle.ct_laws.specs.Tries.WalkTurn.{OfMember, OfScript}
 use Rattle.ct_laws.proofs.Answering.{Follows, answered, answers_first, asks_so, detector_at, follows_by, follows_not, joined_answers}
 use Rattle.ct_laws.proofs.Cases.{if_either}
+use Rattle.ct_laws.proofs.Drawing.{only_asked, says_so, walk_allowed, walk_quiet}
 use Rattle.ct_laws.proofs.Lasting.{never_lasts, suspects_said, suspects_yes}
 use Rattle.ct_laws.proofs.Passing.{first_passes, none_pass}
 use Rattle.ct_laws.proofs.Rates.{AllRated, always_yes, first_many, never_yes, rated_first, rated_there, still_many, still_rated}
 use Rattle.ct_laws.proofs.Receiving.{receives_first, receives_waiting}
+use Rattle.ct_laws.proofs.Seeds.{nowhere}
 use Rattle.ct_laws.proofs.Turns.{IsTry, next_by}
 
 -- ---- the turns of a walk that goes on
@@ -469,3 +471,6 @@ unfolding question
 each_asks w p serial ask h =
     let next = asked_next (next_local w p) (ask_of w p) ask h in
     next_is w p serial next.0 next.1
+
+-- what the law of walks says, but for the least seed
+pub ruleset of_walks = (walk_allowed, has_turns, only_asked, says_so, each_asks, always_yes, never_yes, walk_quiet, nowhere)

@@ -14,6 +14,7 @@ ghost use Rattle.ct_laws.specs.Xml.{IsXml};
 /// of the window that receives or loses it, where none before repeats it. Each such arrow of an envelope that is asked for is there once,
 /// and nothing else is: so one begins at each step of the window that sends or repeats an envelope, and one ends at each that receives or
 /// loses one. The text is well-formed XML, of any record.
+#[tactic(auto, using(crate::proofs::Documents::diagram_reads, crate::proofs::Numbered::of_arrows))]
 pub fn law_diagram()
     ensures steps { (window : Window) (w : Rehearsal) → HasSteps window (part_of window w) }
     ensures arrows { (window : Window) (w : Rehearsal) → IsAllowed (part_of window w) → HasArrows window (part_of window w) }

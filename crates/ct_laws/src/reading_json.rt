@@ -18,6 +18,7 @@ ghost use Rattle.ct_laws.specs.JsonValues.{AreRead, IsRead};
 ghost use Rattle.ct_laws.specs.Sessions.{lines_heard};
 
 /// The numbers of each record that is read fit the fields that hold them, as the laws below ask.
+#[tactic(auto, using(crate::proofs::Values::ReadFitting::script_fits))]
 pub fn law_fitting()
     ensures { (input : List ℕ) (w : Rehearsal) → script input ≡ Ok w → IsFitting w }
 {}
@@ -37,6 +38,7 @@ pub fn law_state_json()
 
 /// Each line of what is shown of a record's steps as JSON is read by `serde_json` as one value: in order as those of the steps that
 /// are asked for; where a step is refused, as those of the steps before it that are asked for, and the last as that of this step.
+#[tactic(auto, using(crate::proofs::Values::StepsMild::steps_read, crate::proofs::Values::StepsMild::shown_read))]
 pub fn law_steps_json()
     ensures taken { (selection : Selection) (w : Rehearsal) → IsFitting w → IsAllowed w →
         AreRead (lines_heard (shown_text (Steps selection Json) w)) (steps_values selection w (length w.steps)) }

@@ -11,6 +11,7 @@ ghost use Rattle.ct_laws.specs.Sessions.{accepted, answers, is_any_refused, line
 
 /// Each line of a session's input is answered once, in order, and the session tells whether one was refused; a line that is refused
 /// changes nothing; and what was played in the end is the record of a schedule of the other lines.
+#[tactic(auto, using(crate::proofs::Hearing::session_is, crate::proofs::Taking::scheduled, crate::proofs::Taking::unchanged))]
 pub fn law_session()
     ensures answers { (input : List ℕ) → (session opening input).text ≡ concat (answers start (lines_heard input)) }
     ensures told { (input : List ℕ) → (session opening input).hearing.refused ≡ is_any_refused start (lines_heard input) }

@@ -8,6 +8,7 @@ ghost use Rattle.ct_choices.specs.Choices.{after_try};
 
 /// Of steps that are tried one after another, as turns and walks try them, exactly the allowed ones of that list join the record. Where
 /// nothing is tried it stays.
+#[tactic(auto, using(crate::proofs::Passing::all_pass, crate::proofs::Passing::one_passes))]
 pub fn law_try()
     ensures none { (w : Rehearsal) → after_try w None ≡ w }
     ensures one { (w : Rehearsal) (step : Step) → after_try w (Some step) ≡ extended_by w (passed w (step ∷ [])) }

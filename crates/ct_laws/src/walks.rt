@@ -24,6 +24,7 @@ ghost use Rattle.ct_laws.specs.Walks.{HaveNoSuspicion, IsLeast, NoneBelow};
 /// where its detector says yes or a suspicion lasts, and nowhere else: a detector of rate 256 always does and one of rate 0 never, so at
 /// rate 0 nobody is suspected. Where one that asks suspects, the coordinator is suspected. The seed that a search names is the least one
 /// of its seeds whose walk shows the goal; where it names none, none does.
+#[tactic(auto, using(crate::proofs::Trying::of_walks))]
 pub fn law_walk()
     ensures allowed { (o : WalkOptions) (until : Option Goal) → AreAllowed (empty (setting_of o.run) o.run.cells) (walked o until).steps }
     ensures tries { (o : WalkOptions) (until : Option Goal) → HasTurns o (walked o until) }

@@ -373,3 +373,5 @@ pub so_shows : (goal : Goal) (s : Played) → EachIsAllowed s.rehearsal → AreM
 unfolding shows
 so_shows goal s whole h =
     each_met s goal (λ term at. so_term s term.when term.whom term.claim whole (h term at))
+
+pub ruleset of_facts_and_goals = (holds_so, so_holds, shows_so, so_shows)

@@ -32,7 +32,7 @@ use Rattle.ct_text.specs.Standing.{instance_of}
 use Rattle.ct_show.specs.Facts.{last_taking, returns, taking_or, takes}
 use Rattle.ct_views.specs.declared.selection.Selection.{Selection}
 use Rattle.ct_views.specs.Selected.{is_selected, first_lines, line_after}
-use Rattle.ct_views.specs.Answer.{refused_line, refused_shown}
+use Rattle.ct_views.specs.Answer.{refused_line, refused_shown, shown_text}
 use Rattle.ct_views.specs.declared.form.Form.TheVariants.{Json}
 use Rattle.ct_views.specs.declared.view.View.TheVariants.{Steps}
 use Rattle.ct_json.specs.Json.{messages_at}
@@ -44,6 +44,9 @@ use Rattle.ct_json.specs.JsonSteps.{refusal_fields, refused_value, round_fields,
 use Rattle.ct_json.specs.Fields.{line_text, lines_text}
 use Rattle.ct_laws.specs.Fitting.{IsFitting}
 use Rattle.ct_laws.specs.JsonSteps.{asked_values, refused_values, shown_values, step_value, steps_values}
+use Rattle.ct_laws.specs.JsonValues.{AreRead}
+use Rattle.ct_laws.specs.Sessions.{lines_heard}
+use Rattle.ct_laws.proofs.Values.Feedless.{lines_read}
 use Rattle.ct_laws.proofs.Values.Bounded.{HasNext, has_next}
 use Rattle.ct_laws.proofs.Values.Mild.{AreMild, Each, IsMild, both_mild, each_both, each_from, mild_by}
 use Rattle.ct_laws.proofs.Values.ReportMild.{IsSized, messages_mild, sized_first}
@@ -82,7 +85,7 @@ asked_same selection w place (Some step) = asked_lines (is_selected selection (p
 abbrev values_at : Selection → Rehearsal → ℕ → List Data
 values_at selection w place = asked_values selection (first_steps w.setting w.cells w.steps place) place (slice_get w.steps place)
 
-pub steps_same : (selection : Selection) (w : Rehearsal) (count : ℕ) →
+steps_same : (selection : Selection) (w : Rehearsal) (count : ℕ) →
     first_lines selection Json w.setting w.cells w.steps count ≡ lines_text (steps_values selection w count)
 unfolding steps_values
 steps_same selection w zero = refl
@@ -98,7 +101,7 @@ unfolding refused_json
 refused_lines w number None refusal = refl
 refused_lines w number (Some step) refusal = line_alone (refused_value w number step refusal)
 
-pub shown_same : (selection : Selection) (w : Rehearsal) (number : ℕ) (refusal : Refusal) →
+shown_same : (selection : Selection) (w : Rehearsal) (number : ℕ) (refusal : Refusal) →
     refused_shown (Steps selection Json) w number refusal ≡ lines_text (shown_values selection w number refusal)
 unfolding refused_values
 shown_same selection w number refusal =
@@ -322,9 +325,11 @@ module _ (selection : Selection) (w : Rehearsal) (h : IsFitting w) (count : ℕ)
       (each_both (IsMild 127) (steps_values selection w k) (values_at selection w k) (first_mild k (omega arith))
       (place_mild k (omega arith)))
 
-pub steps_mild : (selection : Selection) (w : Rehearsal) → IsFitting w → IsAllowed w →
-    Each (IsMild 127) (steps_values selection w (length w.steps))
-steps_mild selection w h allows = first_mild selection w h (length w.steps) allows (omega arith) (length w.steps) (omega arith)
+pub steps_read : (selection : Selection) (w : Rehearsal) → IsFitting w → IsAllowed w →
+    AreRead (lines_heard (shown_text (Steps selection Json) w)) (steps_values selection w (length w.steps))
+steps_read selection w h allows =
+    subst (λ text. AreRead (lines_heard text) (steps_values selection w (length w.steps))) (sym (steps_same selection w (length w.steps)))
+    (lines_read _ (first_mild selection w h (length w.steps) allows (omega arith) (length w.steps) (omega arith)))
 
 refused_at : (w : Rehearsal) (number : ℕ) (o : Option Step) (refusal : Refusal) → IsSized w → number < 2 ^ 64 →
     ((s : Step) → o ≡ Some s → StepFits s) →
@@ -332,10 +337,10 @@ refused_at : (w : Rehearsal) (number : ℕ) (o : Option Step) (refusal : Refusal
 refused_at w number None refusal h low fits = tt
 refused_at w number (Some step) refusal h low fits = (refused_mild w h number step refusal low (fits step refl), tt)
 
-pub shown_mild : (selection : Selection) (w : Rehearsal) (number : ℕ) (refusal : Refusal) → IsFitting w → IsRefused w number refusal →
-    Each (IsMild 127) (shown_values selection w number refusal)
+pub shown_read : (selection : Selection) (w : Rehearsal) (number : ℕ) (refusal : Refusal) → IsFitting w → IsRefused w number refusal →
+    AreRead (lines_heard (refused_shown (Steps selection Json) w number refusal)) (shown_values selection w number refusal)
 unfolding refused_values
-shown_mild selection w number refusal h refused =
+shown_read selection w number refusal h refused =
     let place = number - 1 in
     let inside = refused.refused.within in
     let allows = refused.refused.before in
@@ -343,7 +348,8 @@ shown_mild selection w number refusal h refused =
     let few = before.law.within.few_steps in
     let long = length-take-le place w.steps (omega arith) in
     let low : number < 2 ^ 64 = omega arith in
-    each_both (IsMild 127) (steps_values selection w place) (refused_values w number refusal)
+    subst (λ text. AreRead (lines_heard text) (shown_values selection w number refusal)) (sym (shown_same selection w number refusal))
+    (lines_read _ (each_both (IsMild 127) (steps_values selection w place) (refused_values w number refusal)
     (first_mild selection w h place allows (omega arith) place (omega arith))
     (refused_at (first_steps w.setting w.cells w.steps place) number (slice_get w.steps place) refusal before low
-    (λ s at. fit_at w.steps place s h.fit at))
+    (λ s at. fit_at w.steps place s h.fit at))))
