@@ -2,7 +2,6 @@
 use Rattle.std.proofs.Common.{◌≡◌, inl, inr, ◌<◌, ◌≤◌, ℕ, zero, suc, Bool, true, false, List, [], ◌∷◌, ◌++◌, refl, ap, sym}
 use Rattle.std.proofs.Common.{◌∙◌, subst, append-nil, arith, codes, decimal, length}
 use Rattle.std.proofs.lemmas.Bool.Decides.{nat_tests}
-use Rattle.std.proofs.lemmas.Option.{slice_get_within}
 use Rattle.std.proofs.Math.Nat.{eq-or-lt_of_le}
 use Rattle.std.specs.List.{concat}
 use Rattle.std.specs.Prelude.{if◌then◌else◌, Option, Some, None, option_and_then, option_map, slice_get, unwrap_or}
@@ -24,6 +23,7 @@ use Rattle.ct_show.specs.Wires.{carried_text, letter_text, serial_text}
 use Rattle.ct_laws.specs.Behind.{NameEnvelope, NameLeaving, NameLeft, NameLetter, receiver}
 use Rattle.ct_laws.specs.Facts.{AreTrue, Fact, IsLeaving, IsReturning, IsTaking, IsTrue, fact_text, texts_of}
 use Rattle.ct_laws.specs.Facts.Fact.{Carries, LeftIn, Unsent}
+use Rattle.ct_laws.proofs.Records.{at_within}
 
 -- ---- the last step that takes a serial
 
@@ -98,12 +98,6 @@ so_takes s k (q, inr same) = ap (λ t. takes t k) same ∙ self_number k
 
 so_returns : (s : Step) (k : ℕ) → IsReturning k s → returns s k ≡ true
 so_returns s k (q, same) = ap (λ t. returns t k) same ∙ self_number k
-
-at_within : {A : Type 0} (xs : List A) (number : ℕ) (x : A) → at_serial xs number ≡ Some x → number ≤ length xs
-at_within xs zero x h = omega arith
-at_within xs (suc i) x h =
-    let less : i < length xs = slice_get_within xs i x h in
-    omega (arith, less)
 
 is_leaving : (w : Rehearsal) (k number : ℕ) (s : Step) → IsLast w.steps k (length w.steps) number s → IsLeaving w k number s
 is_leaving w k number s l = record {
