@@ -11,6 +11,7 @@ use Rattle.ct_model.specs.State.{at_serial}
 use Rattle.ct_model.specs.declared.envelope.Envelope.{Envelope}
 use Rattle.ct_model.specs.declared.step.Step.{Step}
 use Rattle.ct_model.proofs.Basics.Options.{some-none, some-same}
+use Rattle.ct_model.proofs.Basics.Tests.{not_true}
 use Rattle.ct_records.specs.Replay.{IsAllowed}
 use Rattle.ct_show.specs.Facts.{returns, takes}
 use Rattle.ct_show.specs.Wires.{letter_at}
@@ -132,29 +133,21 @@ module _ (window : Window) (w : Rehearsal) (all : IsAllowed w) where
       IsDrawnEnd (whole_trail window w) k d.number None
   end_none m k d at none = λ x there low.
       let a = in_whole window w x there in
-      go x (takes x.step k) refl (in_drop w.steps (m + 1) a.index x.step a.is.at (omega arith))
-    where
-      go : (x : Drawn) (b : Bool) → takes x.step k ≡ b → IsIn x.step (drop (m + 1) w.steps) → takes x.step k ≡ false
-      go x false is there = is
-      go x true is there =
-          contrary (is_taken (drop (m + 1) w.steps) k)
-          (list_any-found (λ step. takes step k) x.step (drop (m + 1) w.steps) there is) none
+      not_true (takes x.step k) (λ is. contrary (is_taken (drop (m + 1) w.steps) k)
+      (list_any-found (λ step. takes step k) x.step (drop (m + 1) w.steps) (in_drop w.steps (m + 1) a.index x.step a.is.at (omega arith))
+      is) none)
 
   none_end : length w.steps ≤ window.to → (m k : ℕ) (d : Drawn) → IsAt window w m d →
       IsDrawnEnd (whole_trail window w) k d.number None → is_taken (drop (m + 1) w.steps) k ≡ false
-  none_end end m k d at none = go (is_taken (drop (m + 1) w.steps) k) refl
-    where
-      go : (b : Bool) → is_taken (drop (m + 1) w.steps) k ≡ b → is_taken (drop (m + 1) w.steps) k ≡ false
-      go false is = is
-      go true is =
-          let f = found-list_any (λ step. takes step k) (drop (m + 1) w.steps) is in
-          let b = out_drop w.steps (m + 1) f.item f.is_in in
-          let low = b.1 in
-          let less = within w.steps b.0 f.item b.2 in
-          let at_b = at_between window w m b.0 b.0 f.item at.drawn (omega arith) (omega arith) (omega arith) b.2 in
-          let x = drawn_at window w b.0 f.item in
-          contrary (takes x.step k) (subst (λ s. takes s k ≡ true) (sym (step_is window w b.0 f.item)) f.passes)
-          (none x (whole_has window w b.0 x at_b) (omega arith))
+  none_end end m k d at none = not_true (is_taken (drop (m + 1) w.steps) k) (λ is.
+      let f = found-list_any (λ step. takes step k) (drop (m + 1) w.steps) is in
+      let b = out_drop w.steps (m + 1) f.item f.is_in in
+      let low = b.1 in
+      let less = within w.steps b.0 f.item b.2 in
+      let at_b = at_between window w m b.0 b.0 f.item at.drawn (omega arith) (omega arith) (omega arith) b.2 in
+      let x = drawn_at window w b.0 f.item in
+      contrary (takes x.step k) (subst (λ s. takes s k ≡ true) (sym (step_is window w b.0 f.item)) f.passes)
+      (none x (whole_has window w b.0 x at_b) (omega arith)))
 
   -- ---- each arrow
 

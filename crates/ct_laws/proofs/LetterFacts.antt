@@ -1,5 +1,5 @@
 -- The facts of an envelope are true.
-use Rattle.std.proofs.Common.{◌≡◌, inl, inr, ◌<◌, ◌≤◌, ℕ, zero, suc, Bool, true, false, List, [], ◌∷◌, ◌++◌, refl, ap, sym}
+use Rattle.std.proofs.Common.{◌≡◌, ◌⊎◌, inl, inr, ◌<◌, ◌≤◌, ℕ, zero, suc, Bool, true, false, List, [], ◌∷◌, ◌++◌, refl, ap, sym}
 use Rattle.std.proofs.Common.{◌∙◌, subst, append-nil, arith, codes, decimal, length}
 use Rattle.std.proofs.lemmas.Bool.Decides.{nat_tests}
 use Rattle.std.proofs.Math.Nat.{eq-or-lt_of_le}
@@ -16,6 +16,7 @@ use Rattle.ct_model.specs.Waiting.{has_serial}
 use Rattle.ct_model.specs.Wire.{value_of}
 use Rattle.ct_model.specs.declared.step.Step.{Step}
 use Rattle.ct_model.specs.declared.step.Step.TheVariants as step
+use Rattle.ct_model.proofs.Basics.Options.{some-same}
 use Rattle.ct_model.proofs.Basics.Tests.{not_true, self_number}
 use Rattle.ct_show.specs.Facts.{last_taking, leaving_text, left_in, left_text, letter_facts, missing_text, place_text, returns}
 use Rattle.ct_show.specs.Facts.{serial_facts, takes, taking_or}
@@ -28,25 +29,16 @@ use Rattle.ct_laws.proofs.Records.{at_within}
 -- ---- the last step that takes a serial
 
 -- of the first steps this is the last one that takes the serial, and none behind it puts it back
-record IsLast (steps : List Step) (k count number : ℕ) (step : Step) : Type 0 where
-  pub to : number ≤ count
-  pub there : at_serial steps number ≡ Some step
-  pub so : takes step k ≡ true
-  pub after : (later : ℕ) (other : Step) → number < later → later ≤ count → at_serial steps later ≡ Some other →
+pub record IsLast (steps : List Step) (k count : ℕ) (found : ℕ × Step) : Type 0 where
+  pub to : found.0 ≤ count
+  pub there : at_serial steps found.0 ≡ Some found.1
+  pub so : takes found.1 k ≡ true
+  pub after : (later : ℕ) (other : Step) → found.0 < later → later ≤ count → at_serial steps later ≡ Some other →
       (takes other k ≡ false) × (returns other k ≡ false)
 
-last_here : (steps : List Step) (k i : ℕ) (s : Step) → slice_get steps i ≡ Some s → takes s k ≡ true → IsLast steps k (suc i) (suc i) s
-last_here steps k i s there so = record {
-  to = omega arith;
-  there = there;
-  so = so;
-  after = λ later other low high is. absurd (omega (arith, low, high));
-}
-
-last_before : (steps : List Step) (k i number : ℕ) (s : Step) (o : Option Step) → slice_get steps i ≡ o →
-    ((t : Step) → o ≡ Some t → (takes t k ≡ false) × (returns t k ≡ false)) → IsLast steps k i number s →
-    IsLast steps k (suc i) number s
-last_before steps k i number s o is here l = record {
+last_before : (steps : List Step) (k i : ℕ) (found : ℕ × Step) (o : Option Step) → slice_get steps i ≡ o →
+    ((t : Step) → o ≡ Some t → (takes t k ≡ false) × (returns t k ≡ false)) → IsLast steps k i found → IsLast steps k (suc i) found
+last_before steps k i found o is here l = record {
   to = omega (arith, l.to);
   there = l.there;
   so = l.so;
@@ -56,32 +48,32 @@ last_before steps k i number s o is here l = record {
   ];
 }
 
-last_step : (steps : List Step) (k i number : ℕ) (s t : Step) (taking returning : Bool) (before : Option (ℕ × Step)) →
-    slice_get steps i ≡ Some t → takes t k ≡ taking → returns t k ≡ returning →
-    (before ≡ Some (number, s) → IsLast steps k i number s) →
-    (if taking then Some (suc i, t) else (if returning then None else before)) ≡ Some (number, s) → IsLast steps k (suc i) number s
-last_step steps k i number s t true returning before is took put more h =
-    let same : Some (suc i, t) ≡ Some (number, s) = h in
-    let count : suc i ≡ number = ap (λ (o : Option (ℕ × Step)). (unwrap_or o (0, t)).0) same in
-    let step : t ≡ s = ap (λ (o : Option (ℕ × Step)). (unwrap_or o (0, t)).1) same in
-    subst (λ n. IsLast steps k (suc i) n s) count (subst (λ x. IsLast steps k (suc i) (suc i) x) step (last_here steps k i t is took))
-last_step steps k i number s t false true before is took put more h = absurd (cc h)
-last_step steps k i number s t false false before is took put more h =
-    last_before steps k i number s (Some t) is
-    (λ x same. let own : t ≡ x = cc same in (subst (λ y. takes y k ≡ false) own took, subst (λ y. returns y k ≡ false) own put))
-    (more h)
+-- it takes the serial, or neither takes it nor puts it back
+by_tests : (taking returning : Bool) (here : ℕ × Step) (before : Option (ℕ × Step)) (found : ℕ × Step) →
+    (if taking then Some here else (if returning then None else before)) ≡ Some found →
+    ((taking ≡ true) × (here ≡ found)) ⊎ ((taking ≡ false) × (returning ≡ false) × (before ≡ Some found))
+by_tests true returning here before found h = inl (refl, some-same here found h)
+by_tests false true here before found h = absurd (cc h)
+by_tests false false here before found h = inr (refl, refl, h)
 
-last_by : (steps : List Step) (k i number : ℕ) (s : Step) (before : Option (ℕ × Step)) (o : Option Step) → slice_get steps i ≡ o →
-    (before ≡ Some (number, s) → IsLast steps k i number s) → taking_or before k (suc i) o ≡ Some (number, s) →
-    IsLast steps k (suc i) number s
-last_by steps k i number s before None is more h = last_before steps k i number s None is (λ t same. absurd (cc same)) (more h)
-last_by steps k i number s before (Some t) is more h =
-    last_step steps k i number s t (takes t k) (returns t k) before is refl refl more h
+last_by : (steps : List Step) (k i : ℕ) (found : ℕ × Step) (before : Option (ℕ × Step)) (o : Option Step) → slice_get steps i ≡ o →
+    (before ≡ Some found → IsLast steps k i found) → taking_or before k (suc i) o ≡ Some found → IsLast steps k (suc i) found
+last_by steps k i found before None is more h = last_before steps k i found None is (λ t same. absurd (cc same)) (more h)
+last_by steps k i found before (Some t) is more h = elim (by_tests (takes t k) (returns t k) (suc i, t) before found h) [
+  | inl here ↦ subst (IsLast steps k (suc i)) here.1 (record {
+    to = omega arith;
+    there = is;
+    so = here.0;
+    after = λ later other low high at. absurd (omega (arith, low, high));
+  })
+  | inr none ↦
+      last_before steps k i found (Some t) is
+      (λ x same. subst (λ y. (takes y k ≡ false) × (returns y k ≡ false)) (some-same t x same) (none.0, none.1)) (more none.2)
+]
 
-is_last : (steps : List Step) (k count number : ℕ) (s : Step) → last_taking steps k count ≡ Some (number, s) → IsLast steps k count number s
-is_last steps k zero number s h = absurd (cc h)
-is_last steps k (suc i) number s h =
-    last_by steps k i number s (last_taking steps k i) (slice_get steps i) refl (is_last steps k i number s) h
+pub is_last : (steps : List Step) (k count : ℕ) (found : ℕ × Step) → last_taking steps k count ≡ Some found → IsLast steps k count found
+is_last steps k zero found h = absurd (cc h)
+is_last steps k (suc i) found h = last_by steps k i found (last_taking steps k i) (slice_get steps i) refl (is_last steps k i found) h
 
 returns_so : (s : Step) (k : ℕ) → returns s k ≡ true → IsReturning k s
 returns_so (step.Repeat p i) k h = (p, grind (arith, nat_tests))
@@ -99,7 +91,7 @@ so_takes s k (q, inr same) = ap (λ t. takes t k) same ∙ self_number k
 so_returns : (s : Step) (k : ℕ) → IsReturning k s → returns s k ≡ true
 so_returns s k (q, same) = ap (λ t. returns t k) same ∙ self_number k
 
-is_leaving : (w : Rehearsal) (k number : ℕ) (s : Step) → IsLast w.steps k (length w.steps) number s → IsLeaving w k number s
+is_leaving : (w : Rehearsal) (k number : ℕ) (s : Step) → IsLast w.steps k (length w.steps) (number, s) → IsLeaving w k number s
 is_leaving w k number s l = record {
   there = l.there;
   takes = takes_so s k l.so;
@@ -171,7 +163,7 @@ tells_left w p k r None is = record {
 tells_left w p k r (Some t) is = record {
   facts = LeftIn t.0 t.1 ∷ [];
   is = sym (append-nil _);
-  are = (is_leaving w k t.0 t.1 (is_last w.steps k (length w.steps) t.0 t.1 is), tt);
+  are = (is_leaving w k t.0 t.1 (is_last w.steps k (length w.steps) t is), tt);
   these = (t.0, t.1, refl, refl);
 }
 

@@ -1,7 +1,8 @@
 -- The steps of a window, by their indices in the record.
 use Rattle.std.proofs.Common.{◌≡◌, ◌⊎◌, ℕ, zero, suc, ◌+◌, ◌-◌, ◌<◌, ◌≤◌, Bool, true, false, List, [], ◌∷◌, ◌++◌, length, refl, ap}
-use Rattle.std.proofs.Common.{Option, Some, None, sym, ◌∙◌, subst, arith, inl, inr, fold, nat_le, leb-true, le-leb, ltb-true}
+use Rattle.std.proofs.Common.{Option, Some, None, sym, ◌∙◌, subst, arith, inl, inr, fold, nat_le, leb-true, le-leb}
 use Rattle.std.proofs.Common.{eq-or-lt_of_le, append_assoc}
+use Rattle.std.proofs.lemmas.Bool.Decides.{nat_tests}
 use Rattle.std.proofs.lemmas.List.Sums.{fold-append}
 use Rattle.std.specs.Prelude.{slice_get, ◌&&◌, ◌||◌, nat_lt, if◌then◌else◌}
 use Rattle.ct_names.specs.Membership.{IsIn, IsWithoutRepeats}
@@ -11,7 +12,7 @@ use Rattle.ct_model.specs.Rehearsal.{Rehearsal, extended, state_of}
 use Rattle.ct_model.specs.State.{at_serial}
 use Rattle.ct_model.specs.declared.step.Step.{Step}
 use Rattle.ct_model.proofs.Basics.Options.{some-none, some-same}
-use Rattle.ct_model.proofs.Basics.Tests.{or_cases}
+use Rattle.ct_model.proofs.Basics.Tests.{not_true, or_cases}
 use Rattle.ct_records.specs.Replay.{IsAllowed}
 use Rattle.ct_show.specs.Facts.{returns, takes}
 use Rattle.ct_diagram.specs.Diagram.{drawn_after, drawn_next, first_trail, whole_trail}
@@ -73,12 +74,6 @@ module _ (window : Window) (w : Rehearsal) where
     sent = sym (ap (λ v. length (state_of v).sent) (part_next w m step at));
     place = refl;
   }
-
-  pub at_number : (m : ℕ) (d : Drawn) → IsAt window w m d → d.number ≡ m + 1
-  at_number m d h = h.number
-
-  pub at_step : (m : ℕ) (d : Drawn) → IsAt window w m d → slice_get w.steps m ≡ Some d.step
-  at_step m d h = h.at
 
   pub at_one : (m : ℕ) (d e : Drawn) → IsAt window w m d → IsAt window w m e → d ≡ e
   at_one m d e h k = h.is ∙ ap (drawn_at window w m) (some-same d.step e.step (sym h.at ∙ k.at)) ∙ sym k.is
@@ -271,10 +266,7 @@ module _ (window : Window) (w : Rehearsal) where
   put_cases m k d at h =
       elim (or_cases (returns d.step k) (nat_lt d.before k && nat_le k d.sent) h) [
         | inl r ↦ inl r
-        | inr s ↦
-            let low = ltb-true d.before k (both-left (nat_lt d.before k) (nat_le k d.sent) s) in
-            let high = leb-true k d.sent (both-right (nat_lt d.before k) (nat_le k d.sent) s) in
-            inr (omega arith, omega arith)
+        | inr s ↦ inr (grind (arith, nat_tests, at.before, at.sent), grind (arith, nat_tests, at.before, at.sent))
       ]
 
 module _ (window : Window) (w : Rehearsal) (all : IsAllowed w) where
@@ -299,7 +291,8 @@ module _ (window : Window) (w : Rehearsal) (all : IsAllowed w) where
   pub never_taken : (low n k : ℕ) (e : Drawn) → IsAt window w n e → takes e.step k ≡ true →
       ((m : ℕ) (f : Drawn) → low ≤ m → m < n → IsAt window w m f → puts k f ≡ false) → (m : ℕ) (f : Drawn) → low ≤ m → m < n →
       IsAt window w m f → takes f.step k ≡ false
-  never_taken low n k e there t none m f from less at = go (takes f.step k) refl
+  never_taken low n k e there t none m f from less at =
+      not_true (takes f.step k) (λ is. returned_between w all m n k f.step e.step at.at there.at is t less between)
     where
       not_or : (a b : Bool) → (a || b) ≡ false → a ≡ false
       not_or a b h = grind arith
@@ -310,10 +303,6 @@ module _ (window : Window) (w : Rehearsal) (all : IsAllowed w) where
           let at_j = at_between window w m n j step at.drawn (omega arith) (omega arith) there.high here in
           subst (λ s. returns s k ≡ false) (step_is window w j step)
           (not_or (returns d.step k) (nat_lt d.before k && nat_le k d.sent) (none j d (omega arith) upper at_j))
-
-      go : (b : Bool) → takes f.step k ≡ b → takes f.step k ≡ false
-      go false is = is
-      go true is = absurd (returned_between w all m n k f.step e.step at.at there.at is t less between)
 
 -- none of the window's steps between two takes it, so none of the record's does
 pub none_between : (window : Window) (w : Rehearsal) (i n k last : ℕ) → is_drawn window (i + 1) ≡ true → n ≤ window.to → n ≤ last →

@@ -29,7 +29,7 @@ use Rattle.ct_world.specs.Replay.{AllowsFirst, first_steps}
 use Rattle.ct_world.specs.Standing.{estimate_by, heard_by}
 use Rattle.ct_world.specs.World.{if_member, member_of}
 use Rattle.ct_text.specs.Standing.{instance_of}
-use Rattle.ct_show.specs.Facts.{last_taking, returns, taking_or, takes}
+use Rattle.ct_show.specs.Facts.{last_taking}
 use Rattle.ct_views.specs.declared.selection.Selection.{Selection}
 use Rattle.ct_views.specs.Selected.{is_selected, first_lines, line_after}
 use Rattle.ct_views.specs.Answer.{refused_line, refused_shown, shown_text}
@@ -46,6 +46,7 @@ use Rattle.ct_laws.specs.Fitting.{IsFitting}
 use Rattle.ct_laws.specs.JsonSteps.{asked_values, refused_values, shown_values, step_value, steps_values}
 use Rattle.ct_laws.specs.JsonValues.{AreRead}
 use Rattle.ct_laws.specs.Sessions.{lines_heard}
+use Rattle.ct_laws.proofs.LetterFacts.{is_last}
 use Rattle.ct_laws.proofs.Values.Feedless.{lines_read}
 use Rattle.ct_laws.proofs.Values.Bounded.{HasNext, has_next}
 use Rattle.ct_laws.proofs.Values.Mild.{AreMild, Each, IsMild, both_mild, each_both, each_from, mild_by}
@@ -136,30 +137,9 @@ message_mild : (k : ℕ) (o : Option Envelope) → AreMild k (message_in (option
 message_mild k None = tt
 message_mild k (Some e) = wire_mild k e.wire
 
--- the step that took an envelope is one of the first ones
-record IsTaking (steps : List Step) (i : ℕ) (t : ℕ × Step) : Type 0 where
-  low : t.0 ≤ i
-  fits : StepFits t.1
-
-taking_later : (steps : List Step) (i : ℕ) (t : ℕ × Step) → IsTaking steps i t → IsTaking steps (suc i) t
-taking_later steps i t h = record { low = (let low = h.low in omega arith); fits = h.fits }
-
-taking_if : (steps : List Step) (i : ℕ) (s : Step) (taken put : Bool) (before : Option (ℕ × Step)) (t : ℕ × Step) → StepFits s →
-    (before ≡ Some t → IsTaking steps i t) → (if taken then Some (suc i, s) else (if put then None else before)) ≡ Some t →
-    IsTaking steps (suc i) t
-taking_if steps i s true put before t fits old e =
-    subst (IsTaking steps (suc i)) (some-same (suc i, s) t e) (record { low = omega arith; fits = fits })
-taking_if steps i s false true before t fits old e = absurd (cc)
-taking_if steps i s false false before t fits old e = taking_later steps i t (old e)
-
-taking_is : (steps : List Step) (k i : ℕ) (t : ℕ × Step) → AllFit steps → last_taking steps k i ≡ Some t → IsTaking steps i t
-taking_is steps k zero t fit e = absurd (cc)
-taking_is steps k (suc i) t fit e = go (slice_get steps i) refl (taking_is steps k i t fit) e
-  where
-    go : (o : Option Step) → slice_get steps i ≡ o → (last_taking steps k i ≡ Some t → IsTaking steps i t) →
-        taking_or (last_taking steps k i) k (suc i) o ≡ Some t → IsTaking steps (suc i) t
-    go None at old e = taking_later steps i t (old e)
-    go (Some s) at old e = taking_if steps i s (takes s k) (returns s k) (last_taking steps k i) t (fit_at steps i s fit at) old e
+serial_fits : (steps : List Step) (n : ℕ) (s : Step) → AllFit steps → at_serial steps n ≡ Some s → StepFits s
+serial_fits steps zero s fit at = absurd (cc)
+serial_fits steps (suc i) s fit at = fit_at steps i s fit at
 
 -- ---- what is told of a record
 
@@ -255,18 +235,16 @@ module _ (w : Rehearsal) (h : IsSized w) where
 
   -- ---- a refused step
 
-  left_mild : (k : ℕ) (o : Option (ℕ × Step)) → ((t : ℕ × Step) → o ≡ Some t → IsTaking w.steps (length w.steps) t) →
-      AreMild (suc (suc (suc k))) (left_fields o)
-  left_mild k None taking = tt
-  left_mild k (Some t) taking =
-      let is = taking t refl in
-      let low = is.low in
+  left_mild : (k s : ℕ) (o : Option (ℕ × Step)) → last_taking w.steps s (length w.steps) ≡ o → AreMild (suc (suc (suc k))) (left_fields o)
+  left_mild k s None is = tt
+  left_mild k s (Some t) is =
+      let last = is_last w.steps s (length w.steps) t is in
+      let low = last.to in
       let few = h.law.within.few_steps in
-      ((omega arith, (step_mild k t.1 is.fits, tt)), tt)
+      ((omega arith, (step_mild k t.1 (serial_fits w.steps t.0 t.1 h.fitting.fit last.there), tt)), tt)
 
   leaving_mild : (k s : ℕ) (refusal : Refusal) → AreMild (suc (suc (suc k))) (leaving_fields w s refusal)
-  leaving_mild k s NotWaiting =
-      left_mild k (last_taking w.steps s (length w.steps)) (λ t. taking_is w.steps s (length w.steps) t h.fitting.fit)
+  leaving_mild k s NotWaiting = left_mild k s (last_taking w.steps s (length w.steps)) refl
   leaving_mild k s _ = tt
 
   letter_facts_mild : (k s : ℕ) (o : Option Envelope) (refusal : Refusal) →
