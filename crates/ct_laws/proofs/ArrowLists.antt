@@ -4,6 +4,7 @@ use Rattle.std.proofs.Common.{Option, Some, None, sym, ◌∙◌, subst, arith, 
 use Rattle.std.proofs.Common.{ltb-true}
 use Rattle.std.specs.Prelude.{◌&&◌, flat_map, nat_lt, if◌then◌else◌}
 use Rattle.std.proofs.lemmas.Bool.{or_left, or_right}
+use Rattle.std.proofs.lemmas.Bool.Decides.{nat_tests}
 use Rattle.ct_names.specs.Membership.{IsIn, IsWithoutRepeats}
 use Rattle.ct_names.proofs.Lists.{IsIn-append_cases, IsIn-append_left, IsIn-append_right, IsWithoutRepeats-append, both, both-left}
 use Rattle.ct_names.proofs.Lists.{both-right}
@@ -92,22 +93,16 @@ once_flat f (x ∷ xs) once each apart =
 -- ---- what a step takes out of its line, or puts back
 
 pub taken_takes : (step : Step) (k : ℕ) → taken step ≡ Some k → takes step k ≡ true
-taken_takes (Receive p i) k h = number_same i k (some-same i k h)
-taken_takes (Lose p i) k h = number_same i k (some-same i k h)
-taken_takes step k h = some-none k h
+taken_takes step k h = grind (arith, nat_tests)
 
 takes_taken : (step : Step) (k : ℕ) → takes step k ≡ true → taken step ≡ Some k
-takes_taken (Receive p i) k h = ap Some (same_number i k h)
-takes_taken (Lose p i) k h = ap Some (same_number i k h)
-takes_taken step k h = absurd (cc h)
+takes_taken step k h = grind (arith, nat_tests)
 
 pub returned_returns : (step : Step) (k : ℕ) → returned step ≡ Some k → returns step k ≡ true
-returned_returns (Repeat p i) k h = number_same i k (some-same i k h)
-returned_returns step k h = some-none k h
+returned_returns step k h = grind (arith, nat_tests)
 
 returns_returned : (step : Step) (k : ℕ) → returns step k ≡ true → returned step ≡ Some k
-returns_returned (Repeat p i) k h = ap Some (same_number i k h)
-returns_returned step k h = absurd (cc h)
+returns_returned step k h = grind (arith, nat_tests)
 
 -- ---- what an arrow of a step is
 

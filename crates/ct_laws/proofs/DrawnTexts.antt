@@ -30,10 +30,7 @@ use Rattle.ct_laws.proofs.Reader.Reading.{Within, Value}
 use Rattle.ct_laws.proofs.MildTexts.{detail_mild, estimate_of_mild, letter_of_mild, mild_parts, round_mild, serial_mild}
 use Rattle.ct_laws.proofs.Reading.{IsMild, Leads, if_mild, stays_value, stays_within}
 
--- the types of a sight, of a grid and of a point, which are of no use elsewhere
-abbrev OfOne : {A B : Type 0} → (A → B) → Type 0
-OfOne {A} {B} f = A
-
+-- the types of a grid and of a point, which are of no use elsewhere
 abbrev OfTwo : {A B C : Type 0} → (A → B → C) → Type 0
 OfTwo {A} {B} {C} f = C
 
@@ -282,11 +279,8 @@ small_reads w d spot = simp (xml_parts, title_reads, dot_reads, received_mild)
 -- ---- how a step is drawn
 
 pub marks_read : (w : Rehearsal) (g : Grid) (d : Drawn) → IsInSvg (Marks.marks w g d)
-marks_read w g d = go d.sight (mark_reads w d spot) (small_reads w d spot)
-  where
-    spot : Spot
-    spot = spot_of g d.place (actor d.step)
-
-    go : (sight : OfOne is_wide) → IsInSvg (Marks.mark_text w d spot) → IsInSvg (Marks.small_text w d spot) →
-        IsInSvg (Marks.sighted_text w d spot sight)
-    go sight h k = grind arith
+marks_read w g d =
+    let spot = spot_of g d.place (actor d.step) in
+    let mark = mark_reads w d spot in
+    let small = small_reads w d spot in
+    grind arith

@@ -1,6 +1,7 @@
 -- Which envelopes wait between steps of a record whose steps are all allowed.
 use Rattle.std.proofs.Common.{◌≡◌, ℕ, zero, suc, ◌-◌, ◌<◌, ◌≤◌, Bool, true, false, not, length, refl, ap}
 use Rattle.std.proofs.Common.{Option, Some, None, sym, ◌∙◌, subst, arith}
+use Rattle.std.proofs.lemmas.Bool.Decides.{nat_tests}
 use Rattle.std.specs.Prelude.{slice_get, is_some, ◌==◌, ◌&&◌, ◌||◌, option_and_then}
 use Rattle.ct_names.proofs.Lists.{both, contrary}
 use Rattle.ct_model.specs.declared.step.Step.{Step}
@@ -14,7 +15,7 @@ use Rattle.ct_model.specs.Stamps.{is_gone}
 use Rattle.ct_model.specs.Next.{addressed, wire_to}
 use Rattle.ct_model.specs.Waiting.{has_serial, line_change}
 use Rattle.ct_model.proofs.Basics.Options.{some-none, some-same, when-some}
-use Rattle.ct_model.proofs.Basics.Tests.{and_false, same_number, self_number}
+use Rattle.ct_model.proofs.Basics.Tests.{and_false, not_true, same_number, self_number}
 use Rattle.ct_model.proofs.Record.Envelopes.{sent_serial, waiting_letter}
 use Rattle.ct_model.proofs.Record.Stamps.{is_gone-push, restores, takes as takes_out}
 use Rattle.ct_records.specs.Replay.{IsAllowed}
@@ -25,36 +26,25 @@ use Rattle.ct_laws.proofs.Records.{kept, lawful, next_of, onward, part, part_nex
 -- ---- a step
 
 waits_at : (w : Rehearsal) (step : Step) (k : ℕ) → NamesWaiting w step → takes step k ≡ true → is_waiting w (actor step) k ≡ true
-waits_at w (Receive p i) k h t = subst (λ j. has_serial j (line_of w p) ≡ true) (same_number i k t) h
-waits_at w (Lose p i) k h t = subst (λ j. has_serial j (line_of w p) ≡ true) (same_number i k t) h
-waits_at w step k h t = absurd (cc t)
+waits_at w step k h t = grind (arith, nat_tests)
 
 away_at : (w : Rehearsal) (step : Step) (k : ℕ) → NamesWaiting w step → returns step k ≡ true → IsAway w (actor step) k
-away_at w (Repeat p i) k h t = subst (λ j. IsAway w p j) (same_number i k t) h
-away_at w step k h t = absurd (cc t)
+away_at w step k h t = grind (arith, nat_tests)
 
 out_of : (step : Step) (k : ℕ) → takes step k ≡ true → takes_out (actor step) k (line_change step) ≡ true
-out_of (Receive p i) k t = both (p == p) (i == k) (self_number p) t
-out_of (Lose p i) k t = both (p == p) (i == k) (self_number p) t
-out_of step k t = absurd (cc t)
+out_of step k t = grind (arith, nat_tests)
 
 not_out : (step : Step) (p k : ℕ) → takes step k ≡ false → takes_out p k (line_change step) ≡ false
-not_out (Receive q i) p k t = ap (λ b. (q == p) && b) t ∙ and_false (q == p)
-not_out (Lose q i) p k t = ap (λ b. (q == p) && b) t ∙ and_false (q == p)
-not_out step p k t = refl
+not_out step p k t = grind (arith, nat_tests)
 
 back_of : (step : Step) (k : ℕ) → returns step k ≡ true → restores (actor step) k (line_change step) ≡ true
-back_of (Repeat p i) k t = both (p == p) (i == k) (self_number p) t
-back_of step k t = absurd (cc t)
+back_of step k t = grind (arith, nat_tests)
 
 not_back : (step : Step) (p k : ℕ) → returns step k ≡ false → restores p k (line_change step) ≡ false
-not_back (Repeat q i) p k t = ap (λ b. (q == p) && b) t ∙ and_false (q == p)
-not_back step p k t = refl
+not_back step p k t = grind (arith, nat_tests)
 
 pub one_of : (step : Step) (k : ℕ) → takes step k ≡ true → returns step k ≡ false
-one_of (Receive p i) k t = refl
-one_of (Lose p i) k t = refl
-one_of step k t = absurd (cc t)
+one_of step k t = grind (arith, nat_tests)
 
 -- ---- what is gone after some steps
 
@@ -62,18 +52,6 @@ gone_next : (w : Rehearsal) (n p k : ℕ) (step : Step) → slice_get w.steps n 
     is_gone (part w (suc n)) p k
     ≡ ((is_gone (part w n) p k || takes_out p k (line_change step)) && not (restores p k (line_change step)))
 gone_next w n p k step at = ap (λ v. is_gone v p k) (part_next w n step at) ∙ is_gone-push (part w n) step p k
-
-stay_test : (a b c : Bool) → a ≡ true → c ≡ false → ((a || b) && not c) ≡ true
-stay_test a b c h k = grind arith
-
-out_test : (a b c : Bool) → b ≡ true → c ≡ false → ((a || b) && not c) ≡ true
-out_test a b c h k = grind arith
-
-here_test : (a b c : Bool) → a ≡ false → b ≡ false → ((a || b) && not c) ≡ false
-here_test a b c h k = grind arith
-
-back_test : (a b c : Bool) → c ≡ true → ((a || b) && not c) ≡ false
-back_test a b c h = grind arith
 
 -- none of the steps from one index on, before another, passes the test
 abbrev pub NonePass : (Step → Bool) → Rehearsal → ℕ → ℕ → Type 0
@@ -83,15 +61,13 @@ stays_gone : (w : Rehearsal) (p k n m : ℕ) → n ≤ m → m ≤ length w.step
     NonePass (λ step. returns step k) w n m → is_gone (part w m) p k ≡ true
 stays_gone w p k n m up high here none =
     onward w.steps (λ i. is_gone (part w i) p k ≡ true) n m up high here (λ i step from to at before.
-    gone_next w i p k step at
-    ∙ stay_test (is_gone (part w i) p k) _ _ before (not_back step p k (none i step from to at)))
+    grind (arith, gone_next w i p k step at, not_back step p k (none i step from to at)))
 
 stays_here : (w : Rehearsal) (p k n m : ℕ) → n ≤ m → m ≤ length w.steps → is_gone (part w n) p k ≡ false →
     NonePass (λ step. takes step k) w n m → is_gone (part w m) p k ≡ false
 stays_here w p k n m up high here none =
     onward w.steps (λ i. is_gone (part w i) p k ≡ false) n m up high here (λ i step from to at before.
-    gone_next w i p k step at
-    ∙ here_test (is_gone (part w i) p k) _ _ before (not_out step p k (none i step from to at)))
+    grind (arith, gone_next w i p k step at, not_out step p k (none i step from to at)))
 
 -- ---- the envelope that a step names
 
@@ -132,12 +108,6 @@ mail_sent w n p k m = within_serial k m.there
 abbrev pub Sends : Rehearsal → ℕ → ℕ → Type 0
 Sends w n k = (sent_by w n < k) × (k ≤ sent_by w (suc n))
 
-here_test_of : (a b : Bool) → (a && not b) ≡ true → b ≡ false
-here_test_of a b h = grind arith
-
-gone_test_of : (a b : Bool) → (a && not b) ≡ false → a ≡ true → b ≡ true
-gone_test_of a b h k = grind arith
-
 module _ (w : Rehearsal) (all : IsAllowed w) where
   -- a step that takes an envelope, or puts it back: to whom it was sent
   pub mail_taken : (n k : ℕ) (step : Step) → slice_get w.steps n ≡ Some step → takes step k ≡ true → IsMail w n (actor step) k
@@ -166,8 +136,7 @@ module _ (w : Rehearsal) (all : IsAllowed w) where
   not_gone_taken n k step at t =
       let less = within w.steps n step at in
       let law = lawful w all n (omega arith) in
-      here_test_of _ (is_gone (part w n) (actor step) k)
-      (sym (law.waits (actor step) k) ∙ waits_at (part w n) step k (next_of w all n step at).names t)
+      grind (arith, law.waits (actor step) k, waits_at (part w n) step k (next_of w all n step at).names t)
 
   gone_returned : (n k : ℕ) (step : Step) → slice_get w.steps n ≡ Some step → returns step k ≡ true →
       is_gone (part w n) (actor step) k ≡ true
@@ -175,9 +144,7 @@ module _ (w : Rehearsal) (all : IsAllowed w) where
       let less = within w.steps n step at in
       let law = lawful w all n (omega arith) in
       let away = away_at (part w n) step k (next_of w all n step at).names t in
-      gone_test_of _ (is_gone (part w n) (actor step) k)
-      (sym (law.waits (actor step) k) ∙ away.away)
-      (sent_serial (state_of (part w n)) (actor step) k away.sent)
+      grind (arith, law.waits (actor step) k, away.away, sent_serial (state_of (part w n)) (actor step) k away.sent)
 
   -- two steps that take an envelope: one between them puts it back
   pub returned_between : (m n k : ℕ) (first second : Step) → slice_get w.steps m ≡ Some first → slice_get w.steps n ≡ Some second →
@@ -191,16 +158,13 @@ module _ (w : Rehearsal) (all : IsAllowed w) where
       subst (λ p. takes_out p k (line_change first) ≡ true) p_is (out_of first k t) in
       let back = not_back first (actor second) k (one_of first k t) in
       let gone : is_gone (part w (suc m)) (actor second) k ≡ true =
-      gone_next w m (actor second) k first at ∙ out_test (is_gone (part w m) (actor second) k) _ _ out back in
+      grind (arith, gone_next w m (actor second) k first at) in
       contrary (is_gone (part w n) (actor second) k) (stays_gone w (actor second) k (suc m) n less (omega arith) gone none)
       (not_gone_taken n k second there u)
 
   taken_before : (n k : ℕ) → Sends w n k → (step : Step) → slice_get w.steps n ≡ Some step → takes step k ≡ false
-  taken_before n k sends step at = go (takes step k) refl
-    where
-      go : (b : Bool) → takes step k ≡ b → takes step k ≡ false
-      go false is = is
-      go true is = let m = mail_sent w n (actor step) k (mail_taken n k step at is) in absurd (omega arith)
+  taken_before n k sends step at =
+      not_true (takes step k) (λ is. let m = mail_sent w n (actor step) k (mail_taken n k step at is) in absurd (omega arith))
 
   -- what is in its line stays there until a step takes it out, so no step puts it back before
   here_still : (m n k : ℕ) (second : Step) → slice_get w.steps n ≡ Some second → returns second k ≡ true → m < n →
@@ -220,7 +184,7 @@ module _ (w : Rehearsal) (all : IsAllowed w) where
       (mail_returned n k second there u) in
       here_still m n k second there u less none
       (subst (λ p. is_gone (part w (suc m)) p k ≡ false) p_is
-      (gone_next w m (actor first) k first at ∙ back_test (is_gone (part w m) (actor first) k) _ _ (back_of first k t)))
+      (grind (arith, gone_next w m (actor first) k first at, back_of first k t)))
 
   pub never_returned_sent : (m n k : ℕ) (first second : Step) → slice_get w.steps m ≡ Some first → slice_get w.steps n ≡ Some second →
       Sends w m k → returns second k ≡ true → m < n → NonePass (λ step. takes step k) w (suc m) n → ⊥
@@ -228,6 +192,5 @@ module _ (w : Rehearsal) (all : IsAllowed w) where
       let within_m = within w.steps m first at in
       let law = lawful w all m (omega arith) in
       here_still m n k second there u less none
-      (gone_next w m (actor second) k first at
-      ∙ here_test (is_gone (part w m) (actor second) k) _ _ (law.unsent (actor second) k sends.0)
-      (not_out first (actor second) k (taken_before m k sends first at)))
+      (grind (arith, gone_next w m (actor second) k first at, law.unsent (actor second) k sends.0,
+      not_out first (actor second) k (taken_before m k sends first at)))

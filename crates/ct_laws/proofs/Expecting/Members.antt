@@ -49,16 +49,13 @@ use Rattle.ct_laws.proofs.Expecting.Names.{not_idle, same_phase}
 -- ---- words that are one of two
 
 pub up_so : (crashed : Bool) → up_text crashed ≡ codes "up" → crashed ≡ false
-up_so true h = absurd (omega (arith, ap length h))
-up_so false h = refl
+up_so crashed h = grind arith
 
 pub crashed_so : (crashed : Bool) → up_text crashed ≡ codes "crashed" → crashed ≡ true
-crashed_so true h = refl
-crashed_so false h = absurd (omega (arith, ap length h))
+crashed_so crashed h = grind arith
 
 pub waiting_so : (waits : Bool) → waits_text waits ≡ codes "waits" → waits ≡ true
-waiting_so true h = refl
-waiting_so false h = absurd (omega (arith, ap length h))
+waiting_so waits h = grind arith
 
 -- ---- sets, as texts
 

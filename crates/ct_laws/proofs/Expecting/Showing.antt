@@ -25,7 +25,7 @@ use Rattle.ct_model.specs.State.{delivered, is_crashed}
 use Rattle.ct_model.specs.declared.step.Step.{Step}
 use Rattle.ct_model.specs.declared.step.Step.TheVariants.{Choose}
 use Rattle.ct_model.specs.declared.wire.Wire.TheVariants.{Est}
-use Rattle.ct_model.proofs.Basics.Tests.{or_cases, or_left, or_right}
+use Rattle.ct_model.proofs.Basics.Tests.{not_true, or_cases, or_left, or_right}
 use Rattle.ct_model.proofs.Consensus.Readings.{estimate_from-in, estimates-got}
 use Rattle.ct_model.proofs.Record.Allowed.{allowed-lawful, cause-allowed}
 use Rattle.ct_model.proofs.Record.Start.{lawful-first}
@@ -45,7 +45,7 @@ use Rattle.ct_grammar.specs.declared.term.When.{When}
 use Rattle.ct_grammar.specs.declared.term.When.TheVariants.{Now, Ever, Never}
 use Rattle.ct_grammar.specs.declared.term.Whom.{Whom}
 use Rattle.ct_grammar.specs.declared.term.Whom.TheVariants as whom
-use Rattle.ct_play.specs.Claims.{is_enough, is_refused_so, is_true_of, refuses_choice, refuses_heard, says}
+use Rattle.ct_play.specs.Claims.{is_enough, is_refused_so, is_true_of, last_step, refuses_choice, refuses_heard, says}
 use Rattle.ct_play.specs.Goals.{holds_at, holds_for, is_met, meant, shows, unshown, was_seen}
 use Rattle.ct_play.specs.Played.{Played, first_part}
 use Rattle.ct_laws.specs.Expectations.{HasEstimate}
@@ -89,8 +89,7 @@ enough_so (Exactly n) count h = eqb-true count n h
 enough_so (AtLeast n) count h = leb-true n count h
 
 so_enough : (extent : Extent) (count : ℕ) → IsEnough extent count → is_enough extent count ≡ true
-so_enough (Exactly n) count h = grind (arith, nat_tests)
-so_enough (AtLeast n) count h = grind (arith, nat_tests)
+so_enough extent count h = grind (arith, nat_tests)
 
 got_by : (o : Option Value) → is_some o ≡ true → (v : Value) × (o ≡ Some v)
 got_by None h = absurd (cc h)
@@ -202,10 +201,10 @@ module _ (s : Played) (p : ℕ) (member : IsMember s.rehearsal.setting.members p
   says_so (claim.Got k) law h = got_by (decided (member_of s.rehearsal p).got k) h
   says_so (claim.RefusesChoice reason) law h = choice_so reason h
   says_so (claim.Before one other) law h = before_so (delivered (member_of s.rehearsal p)) one other h
-  says_so claim.SuspectsUp law h = suspects_so s.rehearsal p member h
-  says_so (claim.Follows k) law h = follows_so s.rehearsal p k h
-  says_so claim.ChoosesUnseen law h = chooses_so s.rehearsal p member h
-  says_so claim.ConcludesAgain law h = concludes_so s.rehearsal p member h
+  says_so claim.SuspectsUp law h = suspects_so s.rehearsal p member (last_step s.rehearsal) refl h
+  says_so (claim.Follows k) law h = follows_so s.rehearsal p k (last_step s.rehearsal) refl h
+  says_so claim.ChoosesUnseen law h = chooses_so s.rehearsal p member (last_step s.rehearsal) refl h
+  says_so claim.ConcludesAgain law h = concludes_so s.rehearsal p member (last_step s.rehearsal) refl h
 
   so_says : (c : Claim) → Claims s p c → says s p c ≡ true
   so_says (claim.Fact fact) h = so_holds s p fact member h
@@ -296,12 +295,6 @@ so_of s whom.Up c h =
 
 -- ---- when
 
-at_so : (s : Played) (term : Term) → IsLawful s.rehearsal → holds_at s term ≡ true → IsAt s term
-at_so s term law h = of_so s term.whom term.claim law h
-
-so_at : (s : Played) (term : Term) → IsAt s term → holds_at s term ≡ true
-so_at s term h = so_of s term.whom term.claim h
-
 -- a beginning of up to n steps at which it holds
 record IsSeen (s : Played) (term : Term) (n : ℕ) : Type 0 where
   pub steps : ℕ
@@ -326,14 +319,7 @@ was s term (suc n) k h holds = elim (eq-or-lt_of_le h) [
 ]
 
 ever_so : (s : Played) (term : Term) → EachIsAllowed s.rehearsal → IsSeen s term (length s.rehearsal.steps) → IsWhen Ever s term
-ever_so s term whole f = (f.steps, f.few, at_so (first_part s f.steps) term (lawful_part s f.steps whole) f.holds)
-
-never_if : (s : Played) (term : Term) (b : Bool) → was_seen s term (length s.rehearsal.steps) ≡ b → EachIsAllowed s.rehearsal →
-    IsWhen Never s term → not b ≡ true
-never_if s term true is whole h =
-    let f = ever_so s term whole (seen s term (length s.rehearsal.steps) is) in
-    absurd (h f.0 f.1 f.2)
-never_if s term false is whole h = refl
+ever_so s term whole f = (f.steps, f.few, of_so (first_part s f.steps) term.whom term.claim (lawful_part s f.steps whole) f.holds)
 
 term_so : (s : Played) (when : When) (whom : Whom) (c : Claim) → EachIsAllowed s.rehearsal →
     is_met s (record { when = when; whom = whom; claim = c }) ≡ true → IsWhen when s (record { when = when; whom = whom; claim = c })
@@ -344,7 +330,7 @@ term_so s Ever whom c whole h =
 term_so s Never whom c whole h = λ n few at.
     let term : Term = record { when = Never; whom = whom; claim = c } in
     contrary (was_seen s term (length s.rehearsal.steps))
-    (was s term (length s.rehearsal.steps) n few (so_at (first_part s n) term at))
+    (was s term (length s.rehearsal.steps) n few (so_of (first_part s n) whom c at))
     (not-true (was_seen s term (length s.rehearsal.steps)) h)
 
 so_term : (s : Played) (when : When) (whom : Whom) (c : Claim) → EachIsAllowed s.rehearsal →
@@ -352,10 +338,12 @@ so_term : (s : Played) (when : When) (whom : Whom) (c : Claim) → EachIsAllowed
 so_term s Now whom c whole h = so_of s whom c h
 so_term s Ever whom c whole h =
     let term : Term = record { when = Ever; whom = whom; claim = c } in
-    was s term (length s.rehearsal.steps) h.0 h.1 (so_at (first_part s h.0) term h.2)
+    was s term (length s.rehearsal.steps) h.0 h.1 (so_of (first_part s h.0) whom c h.2)
 so_term s Never whom c whole h =
     let term : Term = record { when = Never; whom = whom; claim = c } in
-    never_if s term (was_seen s term (length s.rehearsal.steps)) refl whole h
+    ap not (not_true (was_seen s term (length s.rehearsal.steps)) (λ is.
+    let f = ever_so s term whole (seen s term (length s.rehearsal.steps) is) in
+    h f.0 f.1 f.2))
 
 -- ---- goals
 

@@ -9,14 +9,14 @@ use Rattle.ct_names.specs.Group.{IsMember, coordinator, is_member}
 use Rattle.ct_names.specs.Membership.{IsIn}
 use Rattle.ct_names.specs.Message.{Message}
 use Rattle.ct_names.specs.Value.{Value}
-use Rattle.ct_names.proofs.Lists.{both, both-left, both-right, found-list_any, list_any-found, not-true}
+use Rattle.ct_names.proofs.Lists.{both, both-left, both-right, contrary, found-list_any, list_any-found, not-true}
 use Rattle.ct_model.specs.AtValue.{Standing}
 use Rattle.ct_model.specs.Mapped.{without_value}
 use Rattle.ct_model.specs.Rehearsal.{Rehearsal, state_of}
 use Rattle.ct_model.specs.State.{at_serial, is_crashed}
 use Rattle.ct_model.specs.declared.step.Step.{Step}
 use Rattle.ct_model.specs.declared.step.Step.TheVariants.{Choose, Conclude, Follow, Receive, Suspect}
-use Rattle.ct_model.proofs.Basics.Tests.{or_cases, self_number}
+use Rattle.ct_model.proofs.Basics.Tests.{not_true, or_cases, self_number}
 use Rattle.ct_world.specs.Standing.{heard_by}
 use Rattle.ct_world.specs.World.{if_member, member_of}
 use Rattle.ct_grammar.specs.declared.carried.Carried.{Carried}
@@ -36,9 +36,8 @@ use Rattle.ct_laws.proofs.MemberFacts.{is_there, of_group}
 
 before_by : (list : List Message) (one other : Name) (a b : Option ℕ) → position (is_named one) list ≡ a →
     position (is_named other) list ≡ b → is_earlier a b ≡ true → IsBefore list one other
-before_by list one other None b is so h = absurd (cc h)
-before_by list one other (Some i) None is so h = absurd (cc h)
 before_by list one other (Some i) (Some j) is so h = (i, j, is, so, ltb-true i j h)
+before_by list one other _ _ is so h = absurd (cc h)
 
 pub before_so : (list : List Message) (one other : Name) → stands_before list one other ≡ true → IsBefore list one other
 unfolding stands_before
@@ -80,17 +79,14 @@ so_ends w step h = ap (λ (l : List Step). slice_get l (length l - 1)) h.1 ∙ a
 
 -- ---- follow
 
-follow_by : (w : Rehearsal) (p k : ℕ) (o : Option Step) → last_step w ≡ o → follows w p k o ≡ true →
+pub follows_so : (w : Rehearsal) (p k : ℕ) (o : Option Step) → last_step w ≡ o → follows w p k o ≡ true →
     EndsWith w (Follow p) × ((member_of w p).last ≡ k)
-follow_by w p k (Some (Follow q)) is h =
+follows_so w p k (Some (Follow q)) is h =
     let same = eqb-true q p (both-left (q == p) ((member_of w p).last == k) h) in (
       ends_so w (Follow p) (is ∙ ap (λ x. Some (Follow x)) same),
       eqb-true (member_of w p).last k (both-right (q == p) ((member_of w p).last == k) h),
     )
-follow_by w p k _ is h = absurd (cc h)
-
-pub follows_so : (w : Rehearsal) (p k : ℕ) → follows w p k (last_step w) ≡ true → EndsWith w (Follow p) × ((member_of w p).last ≡ k)
-follows_so w p k h = follow_by w p k (last_step w) refl h
+follows_so w p k _ is h = absurd (cc h)
 
 pub so_follows : (w : Rehearsal) (p k : ℕ) → EndsWith w (Follow p) → (member_of w p).last ≡ k → follows w p k (last_step w) ≡ true
 so_follows w p k end is =
@@ -106,12 +102,7 @@ coordinates n p r h =
     (omega arith, omega (arith, less))
 
 pub none_of : (b : Bool) → not (b && false) ≡ true
-none_of true = refl
-none_of false = refl
-
-false_of : (b : Bool) → (b ≡ true → false ≡ true) → b ≡ false
-false_of true h = sym (h refl)
-false_of false h = refl
+none_of b = grind arith
 
 -- a serial up to n of which it is so
 abbrev OneOf : (ℕ → Bool) → ℕ → Type 0
@@ -137,19 +128,15 @@ module _ (w : Rehearsal) (p : ℕ) (member : IsMember w.setting.members p) where
       let there = is_there w.setting.members q (coordinates w.setting.members p c.round member) in
       (c, is, not-true (is_crashed (state_of w) q) (sym (ap (λ b. not (b && is_crashed (state_of w) q)) there) ∙ h))
 
-  suspect_by : (o : Option Step) → last_step w ≡ o → suspects_up w p o ≡ true →
+  pub suspects_so : (o : Option Step) → last_step w ≡ o → suspects_up w p o ≡ true →
       EndsWith w (Suspect p) × Stands w p (λ c. IsLed w c.round)
-  suspect_by (Some (Suspect q)) is h =
+  suspects_so (Some (Suspect q)) is h =
       let same = eqb-true q p (both-left (q == p) (is_led w (place_of w p)) h) in (
         ends_so w (Suspect p) (is ∙ ap (λ x. Some (Suspect x)) same),
         led_by (member_of w p).current refl
             (sym (ap (is_led w) (place_is w p member)) ∙ both-right (q == p) (is_led w (place_of w p)) h),
       )
-  suspect_by _ is h = absurd (cc h)
-
-  pub suspects_so : suspects_up w p (last_step w) ≡ true →
-      EndsWith w (Suspect p) × Stands w p (λ c. IsLed w c.round)
-  suspects_so h = suspect_by (last_step w) refl h
+  suspects_so _ is h = absurd (cc h)
 
   pub so_suspects : EndsWith w (Suspect p) →
       Stands w p (λ c. IsLed w c.round) →
@@ -178,16 +165,16 @@ module _ (w : Rehearsal) (p : ℕ) (member : IsMember w.setting.members p) where
   not_got : (carried : Carried) → has_got w p carried ≡ false → (k : ℕ) → IsIn (Receive p k) w.steps → has carried k ≡ false
   unfolding has_got
   not_got carried none k at =
-      false_of (has carried k) (λ so. sym none
-      ∙ list_any-found (gets w p carried) (Receive p k) w.steps at (both (p == p) (has carried k) (self_number p) so))
+      not_true (has carried k) (λ so. contrary (list_any (gets w p carried) w.steps)
+      (list_any-found (gets w p carried) (Receive p k) w.steps at (both (p == p) (has carried k) (self_number p) so)) none)
 
   got_not : (carried : Carried) → ((k : ℕ) → IsIn (Receive p k) w.steps → has carried k ≡ false) → has_got w p carried ≡ false
   unfolding has_got
   got_not carried none =
-      false_of (list_any (gets w p carried) w.steps) (λ some.
+      not_true (list_any (gets w p carried) w.steps) (λ some.
       let f = found-list_any (gets w p carried) w.steps some in
       let r = receives carried f.item f.passes in
-      sym (none r.0 (subst (λ x. IsIn x w.steps) r.1 f.is_in)) ∙ r.2)
+      contrary (has carried r.0) r.2 (none r.0 (subst (λ x. IsIn x w.steps) r.1 f.is_in)))
 
   unseen_by : (q : ℕ) (o : Option (Value × ℕ)) → heard_by (member_of w p) q ≡ o → is_unseen w p o ≡ true → IsUnseen w p q
   unseen_by q None is h = absurd (cc h)
@@ -201,8 +188,8 @@ module _ (w : Rehearsal) (p : ℕ) (member : IsMember w.setting.members p) where
         not_got (Prop (member_of w p).last e.1) (not-true (has_got w p (Prop (member_of w p).last e.1)) (both-right more none h)),
       )
 
-  choose_by : (o : Option Step) → last_step w ≡ o → chooses_unseen w p o ≡ true → (q : ℕ) × EndsWith w (Choose p q) × IsUnseen w p q
-  choose_by (Some (Choose q from)) is h =
+  pub chooses_so : (o : Option Step) → last_step w ≡ o → chooses_unseen w p o ≡ true → (q : ℕ) × EndsWith w (Choose p q) × IsUnseen w p q
+  chooses_so (Some (Choose q from)) is h =
       let heard = if_member w p (heard_by (member_of w p) from) in
       let same = eqb-true q p (both-left (q == p) (is_unseen w p heard) h) in (
         from,
@@ -210,10 +197,7 @@ module _ (w : Rehearsal) (p : ℕ) (member : IsMember w.setting.members p) where
         unseen_by from (heard_by (member_of w p) from) refl
             (sym (ap (is_unseen w p) (of_group w p (heard_by (member_of w p) from) member)) ∙ both-right (q == p) (is_unseen w p heard) h),
       )
-  choose_by _ is h = absurd (cc h)
-
-  pub chooses_so : chooses_unseen w p (last_step w) ≡ true → (q : ℕ) × EndsWith w (Choose p q) × IsUnseen w p q
-  chooses_so h = choose_by (last_step w) refl h
+  chooses_so _ is h = absurd (cc h)
 
   pub so_chooses : (q : ℕ) → EndsWith w (Choose p q) → IsUnseen w p q → chooses_unseen w p (last_step w) ≡ true
   so_chooses q end h =
@@ -245,21 +229,16 @@ module _ (w : Rehearsal) (p : ℕ) (member : IsMember w.setting.members p) where
         ),
       )
 
-  conclude_by : (o : Option Step) → last_step w ≡ o → concludes_again w p o ≡ true →
+  pub concludes_so : (o : Option Step) → last_step w ≡ o → concludes_again w p o ≡ true →
       EndsWith w (Conclude p)
       × Stands w p (λ c. DecidesAgain w p c.round)
-  conclude_by (Some (Conclude q)) is h =
+  concludes_so (Some (Conclude q)) is h =
       let same = eqb-true q p (both-left (q == p) (is_again w p (place_of w p)) h) in (
         ends_so w (Conclude p) (is ∙ ap (λ x. Some (Conclude x)) same),
         again_by (member_of w p).current refl
             (sym (ap (is_again w p) (place_is w p member)) ∙ both-right (q == p) (is_again w p (place_of w p)) h),
       )
-  conclude_by _ is h = absurd (cc h)
-
-  pub concludes_so : concludes_again w p (last_step w) ≡ true →
-      EndsWith w (Conclude p)
-      × Stands w p (λ c. DecidesAgain w p c.round)
-  concludes_so h = conclude_by (last_step w) refl h
+  concludes_so _ is h = absurd (cc h)
 
   pub so_concludes : EndsWith w (Conclude p) →
       Stands w p (λ c. DecidesAgain w p c.round) →
