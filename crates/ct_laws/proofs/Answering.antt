@@ -19,8 +19,7 @@ answered None said = None
 answered (Some ask) said = Some said
 
 pub asks_so : (asks : Option Ask) (said : Bool) → is_some (answered asks said) ≡ is_some asks
-asks_so None said = refl
-asks_so (Some ask) said = refl
+asks_so asks said = grind arith
 
 -- ---- lists of answers
 

@@ -20,6 +20,7 @@ use Rattle.ct_diagram.specs.Trail.{is_taken, origin, puts, returned, taken}
 use Rattle.ct_diagram.specs.Diagram.{whole_trail}
 use Rattle.ct_diagram.specs.declared.window.Window.{Window}
 use Rattle.ct_laws.specs.Diagrams.{Drawn, wanted}
+use Rattle.ct_laws.proofs.Cases.{if_either}
 use Rattle.ct_laws.proofs.DrawnArrows.{DrawnArrow}
 use Rattle.ct_laws.proofs.Trails.{IsAmong, IsAt, in_whole, once_trail, same_number_one, trail_at, whole_has}
 use Rattle.ct_laws.proofs.Waits.{mail_returned, mail_sent}
@@ -250,11 +251,7 @@ module _ (window : Window) (w : Rehearsal) (m : ℕ) (d : Drawn) where
   -- ---- each once
 
   once_stub : (k : ℕ) → IsWithoutRepeats (stub_arrows window w d later k)
-  once_stub k = go (is_taken later k)
-    where
-      go : (b : Bool) → IsWithoutRepeats (if b then [] else one_arrow k (Some d) None (wanted window w k))
-      go true = tt
-      go false = once_arrow k (Some d) None (wanted window w k)
+  once_stub k = if_either IsWithoutRepeats (is_taken later k) [] _ tt (once_arrow k (Some d) None (wanted window w k))
 
   once_taken : (o : Option ℕ) → IsWithoutRepeats (taken_arrows window w (trail_at window w m) d o)
   once_taken None = tt

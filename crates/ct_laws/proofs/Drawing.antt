@@ -30,7 +30,7 @@ use Rattle.ct_walk.specs.declared.options.WalkOptions.{WalkOptions}
 use Rattle.ct_laws.specs.Places.{AreAllowed, behind}
 use Rattle.ct_laws.specs.Walks.{HaveNoSuspicion, is_suspicion}
 use Rattle.ct_laws.proofs.Deeds.{Grows, grows_not, grows_on}
-use Rattle.ct_laws.proofs.Lasting.{AreFalse, all_false, false_set, false_there, suspects_yes}
+use Rattle.ct_laws.proofs.Lasting.{AreFalse, all_false, false_set, false_there, suspects_said, suspects_yes}
 use Rattle.ct_laws.proofs.Rates.{AllRated, never_yes, rated_first, rated_there, still_rated}
 
 -- ---- what is tried without a yes
@@ -138,26 +138,18 @@ never_answers ds p (Some ask) None is h = refl
 never_answers ds p (Some ask) (Some d) is h = never_yes d (rated_there 0 ds (p - 1) d h is)
 
 tries_no : (w : Rehearsal) (p : ℕ) (serial : Option ℕ) (yes : Bool) → yes ≡ false → IsCalm (tries w p serial yes)
-tries_no w p serial true nay = absurd (cc)
-tries_no w p serial false nay = tries_calm w p serial
-
-third : (a b c : Bool) → c ≡ false → (a && (b && c)) ≡ false
-third a b c h = grind arith
+tries_no w p serial said nay = subst (λ b. IsCalm (tries w p serial b)) (sym nay) (tries_calm w p serial)
 
 none_lasts : (o : WalkOptions) (s : List Bool) (asks : Option Ask) (said : Bool) → AreFalse s → may_last o s asks said ≡ false
 none_lasts o s None said h = refl
-none_lasts o s (Some ask) said h = third (not (o.lasting == 0)) (not said) (get_or s (at_ask ask) false) (false_there s (at_ask ask) h)
-
-nay_by : (o : WalkOptions) (draws : Lcg) (lasts said : Bool) → lasts ≡ false → said ≡ false → suspects_by o draws lasts said ≡ false
-nay_by o draws true said h k = absurd (cc)
-nay_by o draws false said h k = k
+none_lasts o s (Some ask) said h = let no = false_there s (at_ask ask) h in grind arith
 
 never_suspects : (o : WalkOptions) (w : Walk) (p : ℕ) → IsSilent w → suspects o w p ≡ false
 never_suspects o w p h =
     let asks = question w.rehearsal p in
     let said = answer asks (slice_get w.detectors (p - 1)) in
-    nay_by o (after_place o w.draws) (lasts o w p) said (none_lasts o w.suspected asks said h.none)
-    (never_answers w.detectors p asks (slice_get w.detectors (p - 1)) refl h.rated)
+    suspects_said o (after_place o w.draws) (lasts o w p) said (none_lasts o w.suspected asks said h.none)
+    ∙ (never_answers w.detectors p asks (slice_get w.detectors (p - 1)) refl h.rated)
 
 tries_quiet : (quiet : Bool) (o : WalkOptions) (w : Walk) (p : ℕ) (serial : Option ℕ) → AreSilent quiet w →
     IsQuiet quiet (tries w.rehearsal p serial (suspects o w p))

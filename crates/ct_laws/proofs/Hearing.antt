@@ -94,9 +94,7 @@ kept_on line whole byte (inr long) =
     )
 
 both_long : {A : Type 0} (c d : Bool) (x a b : A) → c ≡ true → d ≡ true → (if c then x else a) ≡ (if d then x else b)
-both_long true true x a b h k = refl
-both_long true false x a b h k = absurd (cc)
-both_long false d x a b h k = absurd (cc)
+both_long c d x a b h k = grind arith
 
 same_line : (line whole : List ℕ) → IsKept line whole → line_if line ≡ line_if whole
 unfolding IsKept line_if

@@ -28,17 +28,14 @@ all_false (suc n) = (refl, all_false n)
 
 -- where the detector says yes no word is drawn
 yes_lasts : (o : WalkOptions) (s : List Bool) (asks : Option Ask) → may_last o s asks true ≡ false
-yes_lasts o s None = refl
-yes_lasts o s (Some ask) = grind arith
+yes_lasts o s asks = grind arith
 
 -- nor where no suspicion lasts
 pub never_lasts : (o : WalkOptions) (s : List Bool) (asks : Option Ask) (said : Bool) → o.lasting ≡ 0 → may_last o s asks said ≡ false
-never_lasts o s None said h = refl
-never_lasts o s (Some ask) said h = rw h refl
+never_lasts o s asks said h = grind arith
 
 pub suspects_said : (o : WalkOptions) (draws : Lcg) (lasts said : Bool) → lasts ≡ false → suspects_by o draws lasts said ≡ said
-suspects_said o draws true said h = absurd (cc h)
-suspects_said o draws false said h = refl
+suspects_said o draws lasts said h = grind arith
 
 pub suspects_yes : (o : WalkOptions) (draws : Lcg) (s : List Bool) (asks : Option Ask) (said : Bool) → said ≡ true →
     suspects_by o draws (may_last o s asks said) said ≡ true

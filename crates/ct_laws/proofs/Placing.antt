@@ -1,4 +1,5 @@
 -- The places of lines.
+use Rattle.std.proofs.Common.{arith}
 use Rattle.std.proofs.Common.{◌≡◌, ℕ, ◌+◌, Bool, true, false, List, [], ◌∷◌, refl, ap, sym, ◌∙◌, subst}
 use Rattle.std.specs.List.{list_all}
 use Rattle.std.specs.Prelude.{◌&&◌, find, not, if◌then◌else◌, Option, Some, None, Result, Ok, Err, is_some}
@@ -39,8 +40,7 @@ use Rattle.ct_laws.proofs.Turns.{last_grows, rounds_grow}
 -- ---- what is played
 
 unless_named : (ps qs : List ℕ) (o : Option ℕ) → unless_strange ps o ≡ Ok qs → ps ≡ qs
-unless_named ps qs None h = cc h
-unless_named ps qs (Some p) h = absurd (cc h)
+unless_named ps qs o h = grind arith
 
 known_named : (n : ℕ) (by : Who) (ps : List ℕ) → known n by ≡ Ok ps → named n by ≡ ps
 unfolding known
@@ -59,8 +59,7 @@ turned_grows s t play by n h =
     of_named s.rehearsal.setting.members by on.0 s t on.1 (subst (λ u. Grows (AreOf on.0) s u) is (rounds_grow play on.0 s n))
 
 still_same : (c : Bool) (t u : Played) → (if c then Ok t else Err Restless) ≡ Ok u → t ≡ u
-still_same true t u h = cc h
-still_same false t u h = absurd (cc h)
+still_same c t u h = grind arith
 
 rested_grows : (s t : Played) (play : Play) (ps : List ℕ) → rested play ps s ≡ Ok t → Grows (AreOf ps) s t
 unfolding rested
@@ -79,19 +78,12 @@ settled_grows s t play by h =
 
 -- ---- what is shown
 
-met_if : (c : Bool) (t : Term) (rest : Bool) (o : Option Term) → (if not c then Some t else o) ≡ None → (o ≡ None → rest ≡ true) →
-    (c && rest) ≡ true
-met_if true t rest o h more = more h
-met_if false t rest o h more = absurd (cc h)
-
 all_met : (s : Played) (goal : List Term) → find (λ t. not (is_met s t)) goal ≡ None → list_all (is_met s) goal ≡ true
 all_met s [] h = refl
-all_met s (t ∷ goal) h =
-    met_if (is_met s t) t (list_all (is_met s) goal) (find (λ t. not (is_met s t)) goal) h (all_met s goal)
+all_met s (t ∷ goal) h = let more = all_met s goal in grind arith
 
 none_unmet : (s t : Played) (o : Option Term) → unless_unmet s o ≡ Ok t → o ≡ None
-none_unmet s t None h = refl
-none_unmet s t (Some term) h = absurd (cc h)
+none_unmet s t o h = grind arith
 
 expected_shows : (s t : Played) (goal : Goal) → expected_of s goal ≡ Ok t → EachIsAllowed s.rehearsal → IsShown s.rehearsal goal
 unfolding unmet shows

@@ -33,11 +33,9 @@ found_if o goal first more seed true is later h =
     (record { from = omega arith; to = omega arith; shows = is; none = none_here o goal first })
 found_if o goal first more seed false is later h =
     let f = later seed h in
-    let from : first + 1 ≤ seed = f.from in
-    let to : seed < first + 1 + more = f.to in
     record {
-      from = omega (arith, from);
-      to = omega (arith, to);
+      from = omega (arith, f.from);
+      to = omega (arith, f.to);
       shows = f.shows;
       none = none_more o goal first seed is f.none;
     }
@@ -64,9 +62,7 @@ missing o goal (suc more) first h =
 pub least : (o : WalkOptions) (goal : Goal) (seeds : Seeds) (seed : ℕ) → first_of o goal seeds ≡ Some seed → IsLeast o goal seeds seed
 least o goal seeds seed h =
     let f = found o goal (seeds_to seeds.first seeds.last) seeds.first seed h in
-    let from : seeds.first ≤ seed = f.from in
-    let to : seed < seeds.first + ((seeds.last + 1) - seeds.first) = f.to in
-    record { from = from; to = omega (arith, from, to); shows = f.shows; none = f.none }
+    record { from = f.from; to = omega (arith, f.from, f.to); shows = f.shows; none = f.none }
 
 pub nowhere : (o : WalkOptions) (goal : Goal) (seeds : Seeds) → first_of o goal seeds ≡ None → NoneBelow o goal seeds.first (seeds.last + 1)
 nowhere o goal seeds h s low high =

@@ -35,6 +35,7 @@ use Rattle.ct_laws.proofs.Drawing.{only_asked, says_so, walk_allowed, walk_quiet
 use Rattle.ct_laws.proofs.Lasting.{never_lasts, suspects_said, suspects_yes}
 use Rattle.ct_laws.proofs.Passing.{first_passes, none_pass}
 use Rattle.ct_laws.proofs.Rates.{AllRated, always_yes, first_many, never_yes, rated_first, rated_there, still_many, still_rated}
+use Rattle.ct_laws.proofs.Records.{got}
 use Rattle.ct_laws.proofs.Receiving.{receives_first, receives_waiting}
 use Rattle.ct_laws.proofs.Seeds.{nowhere}
 use Rattle.ct_laws.proofs.Turns.{IsTry, next_by}
@@ -80,8 +81,7 @@ none_made o w most = record {
 }
 
 entries_if : (b : Bool) (e : Disturbance) (more : List Disturbance) → (if b then e ∷ more else more) ≡ (if b then e ∷ [] else []) ++ more
-entries_if true e more = refl
-entries_if false e more = refl
+entries_if b e more = grind arith
 
 entries_first : (i : ℕ) (turn : WalkTurn) (turns : List WalkTurn) →
     entries_in i (turn ∷ turns) ≡ entries_in i (turn ∷ []) ++ entries_in i turns
@@ -142,8 +142,7 @@ record IsReady (o : WalkOptions) (w : Walk) : Type 0 where
 -- ---- a turn of a member
 
 said_is : (asks : Option Ask) (d : Option SeededState) → unwrap_or (answered asks (answer asks d)) false ≡ answer asks d
-said_is None d = refl
-said_is (Some ask) d = refl
+said_is asks d = grind arith
 
 suspects_so : (o : WalkOptions) (w : Walk) (p : ℕ) →
     IsSuspicion o (answered (question w.rehearsal p) (answer (question w.rehearsal p) (slice_get w.detectors (p - 1)))) (suspects o w p)
@@ -155,14 +154,10 @@ suspects_so o w p =
       λ zero. suspects_said o (after_place o w.draws) (lasts o w p) said (never_lasts o w.suspected asks said zero) ∙ sym is,
     )
 
-no_detector : (ds : List SeededState) (i : ℕ) → i < length ds → slice_get ds i ≡ None → ⊥
-no_detector [] i low h = absurd (omega (arith, low))
-no_detector (d ∷ ds) i low h = grind (arith, no_detector ds)
-
 is_answer : (rate : ℕ) (ds : List SeededState) (i : ℕ) (asks : Option Ask) (d : Option SeededState) → slice_get ds i ≡ d → i < length ds →
     AllRated rate ds → IsAnswer rate (answered asks (answer asks d))
 is_answer rate ds i None d is low h = tt
-is_answer rate ds i (Some ask) None is low h = absurd (no_detector ds i low is)
+is_answer rate ds i (Some ask) None is low h = absurd (cc (sym is ∙ (got ds i low).1))
 is_answer rate ds i (Some ask) (Some d) is low h =
     let same : d.rate ≡ rate = rated_there rate ds i d h is in
     ((λ zero. never_yes d (same ∙ zero)), (λ most. always_yes d (same ∙ most)))
@@ -188,15 +183,6 @@ driven_one o w p there ready =
       said = λ q e from is. follows_by w.detectors q p e asks (q == p) refl from low is;
       is = refl;
     }
-
-driven_size : (o : WalkOptions) (w : Walk) (p : ℕ) →
-    (driven o w p).detectors ≡ after_answer w.detectors p (question w.rehearsal p) (slice_get w.detectors (p - 1))
-unfolding driven
-driven_size o w p = refl
-
-driven_whole : (o : WalkOptions) (w : Walk) (p : ℕ) → IsWhole o w → IsWhole o (driven o w p)
-unfolding driven
-driven_whole o w p h = h
 
 -- ---- a turn of a script
 
@@ -268,28 +254,17 @@ ready_by o w v ready next many rated whole = record {
 }
 
 driven_on : (o : WalkOptions) (w : Walk) (p : ℕ) → IsMember o.run.members p → IsReady o w → HasTurned o w (driven o w p)
+unfolding driven
 driven_on o w p there ready =
     let asks = question w.rehearsal p in
     let d = slice_get w.detectors (p - 1) in
-    let are = driven_size o w p in
-    ready_by o w (driven o w p) ready (inl (driven_one o w p there ready))
-    (ap (λ (ds : List SeededState). length ds) are ∙ still_many w.detectors p asks d)
-    (subst (λ ds. AllRated o.run.rate ds) (sym are) (still_rated o.run.rate w.detectors p asks ready.rated))
-    (driven_whole o w p ready.whole)
-
-same_detectors : (w : Walk) (i : ℕ) → (entered w i).detectors ≡ w.detectors
-unfolding entered
-same_detectors w i = refl
-
-entered_whole : (o : WalkOptions) (w : Walk) (i : ℕ) → IsWhole o w → IsWhole o (entered w i)
-unfolding entered
-entered_whole o w i h = h
+    ready_by o w (driven o w p) ready (inl (driven_one o w p there ready)) (still_many w.detectors p asks d)
+    (still_rated o.run.rate w.detectors p asks ready.rated) ready.whole
 
 entered_on : (o : WalkOptions) (w : Walk) (i : ℕ) → IsReady o w → HasTurned o w (entered w i)
+unfolding entered
 entered_on o w i ready =
-    let are = same_detectors w i in
-    ready_by o w (entered w i) ready (entered_by o w i (left_of w i) refl) (ap (λ (ds : List SeededState). length ds) are)
-    (subst (λ ds. AllRated o.run.rate ds) (sym are) ready.rated) (entered_whole o w i ready.whole)
+    ready_by o w (entered w i) ready (entered_by o w i (left_of w i) refl) refl ready.rated ready.whole
 
 script_on : (o : WalkOptions) (w : Walk) (i : Option ℕ) → IsReady o w → HasTurned o w (after_script w i)
 script_on o w None ready = record { next = inr (record { left = λ i. refl; same = refl; is = refl }); ready = ready }
@@ -345,24 +320,16 @@ drawn_on o w ready =
 
 -- ---- what comes before a turn
 
+if_aside : (c : Bool) (w u v : Walk) → IsAside w u → IsAside w v → IsAside w (if c then u else v)
+if_aside c w u v h k = if_either (IsAside w) c u v h k
+
 changed_aside : (w : Walk) → IsAside w (changed_now w)
 unfolding changed_now
-changed_aside w =
-    let v = record w { draws = after_word w.draws } in
-    let cuts = record v { cut = next_word v.draws % 65536; cuts = v.cuts - 1; draws = after_word v.draws } in
-    let same : IsAside w w = record { rehearsal = refl; detectors = refl; scripts = refl } in
-    if_either (IsAside w) (may_change w) (if is_rare (next_word w.draws) then changed v else v) w
-    (if_either (IsAside w) (is_rare (next_word w.draws)) (changed v) v
-    (if_either (IsAside w) (v.cut == 0) cuts (record v { cut = 0 }) (record { rehearsal = refl; detectors = refl; scripts = refl })
-    (record { rehearsal = refl; detectors = refl; scripts = refl }))
-    (record { rehearsal = refl; detectors = refl; scripts = refl }))
-    same
+changed_aside w = search if_aside
 
 chance_aside : (w : Walk) → IsAside w (after_chance w)
 unfolding after_chance
-chance_aside w =
-    if_either (IsAside w) (has_left w 4) (record w { draws = after_word w.draws }) w
-    (record { rehearsal = refl; detectors = refl; scripts = refl }) (record { rehearsal = refl; detectors = refl; scripts = refl })
+chance_aside w = search if_aside
 
 aside_on : (u v w : Walk) → IsAside u v → IsAside v w → IsAside u w
 aside_on u v w h k = record {

@@ -1,4 +1,5 @@
 -- Compact texts have no line feed, so each is a line of its own.
+use Rattle.ct_names.proofs.Lists.{not-true}
 use Rattle.std.proofs.Common.{◌≡◌, ◌⊎◌, inl, inr, ℕ, zero, suc, ◌<◌, ◌≤◌, Bool, true, false, not, ◌&&◌, List, [], ◌∷◌, ◌++◌, map, refl, ap}
 use Rattle.std.proofs.Common.{sym, ◌∙◌, subst, append_assoc, arith, decimal}
 use Rattle.std.proofs.lemmas.Bool.{cases_eq, cases_lt, ne_eqb, and_parts}
@@ -27,13 +28,9 @@ self_plain (x ∷ xs) h = (ne_eqb x 10 (λ e. let low = h.0.no_control in omega 
 
 -- ---- strings
 
-not_false : (b : Bool) → not b ≡ true → b ≡ false
-not_false true h = cc
-not_false false h = refl
-
 all_plain : (xs : List ℕ) → list_all (λ b. not (is_feed b)) xs ≡ true → IsPlain xs
 all_plain [] h = tt
-all_plain (x ∷ xs) h = let both = and_parts (not (is_feed x)) _ h in (not_false (is_feed x) both.0, all_plain xs both.1)
+all_plain (x ∷ xs) h = let both = and_parts (not (is_feed x)) _ h in (not-true (is_feed x) both.0, all_plain xs both.1)
 
 -- it passes for each number below
 abbrev passes_below : (ℕ → Bool) → ℕ → Bool

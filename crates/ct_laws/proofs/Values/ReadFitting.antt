@@ -1,4 +1,5 @@
 -- The numbers of a record that is read fit the fields that hold them.
+use Rattle.std.proofs.lemmas.Option.{cond_some}
 use Rattle.std.proofs.Common.{◌≡◌, ℕ, ◌+◌, ◌≤◌, Bool, true, false, List, [], ◌∷◌, Option, Some, None, Result, Ok, Err, refl, subst, sym}
 use Rattle.std.proofs.Common.{inl, inr, arith}
 use Rattle.std.proofs.lemmas.Bool.{and_parts, leb-true}
@@ -52,16 +53,10 @@ ok_same x y e = cc
 
 -- the branch that was taken
 taken : {A : Type 0} (b : Bool) (r : Result A ReadFault) (fault : ReadFault) (y : A) → (if b then r else Err fault) ≡ Ok y → r ≡ Ok y
-taken true r fault y e = e
-taken false r fault y e = absurd (cc)
+taken b r fault y e = grind arith
 
 other : {A : Type 0} (b : Bool) (r : Result A ReadFault) (fault : ReadFault) (y : A) → (if b then Err fault else r) ≡ Ok y → r ≡ Ok y
-other true r fault y e = absurd (cc)
-other false r fault y e = e
-
-some_if : {A : Type 0} (b : Bool) (x y : A) → (if b then Some x else None) ≡ Some y → (b ≡ true) × (x ≡ y)
-some_if true x y e = (refl, some-same x y e)
-some_if false x y e = absurd (cc)
+other b r fault y e = grind arith
 
 -- ---- numbers
 
@@ -69,7 +64,7 @@ whole_within : (low high : ℕ) (d : Data) (n : ℕ) → whole_of low high d ≡
 unfolding whole_of
 whole_within low high d n e =
     let number = made-then (λ x. if nat_le low x && nat_le x high then Some x else None) (option_and_then as_u64 (as_number d)) n e in
-    let passed = some_if (nat_le low number.from && nat_le number.from high) number.from n number.gives in
+    let passed = cond_some (nat_le low number.from && nat_le number.from high) number.from n number.gives in
     let both = and_parts (nat_le low number.from) (nat_le number.from high) passed.0 in
     subst (λ x. (low ≤ x) × (x ≤ high)) passed.1 (leb-true low number.from both.0, leb-true number.from high both.1)
 
@@ -117,7 +112,7 @@ numbered_fits : (name : List ℕ) (p n : ℕ) (s : Step) → p ≤ 255 → numbe
 unfolding numbered_step
 numbered_fits name p n s h e =
     let made = made-then (λ s. if rest_fits (step_entry s).rest then Some s else None) (named step_entry name (with_number p n)) s e in
-    let passed = some_if (rest_fits (step_entry made.from).rest) made.from s made.gives in
+    let passed = cond_some (rest_fits (step_entry made.from).rest) made.from s made.gives in
     let serial : (nat_le n 4294967295 ≡ true) → (p ≤ 255) × (n ≤ 4294967295) = λ b. (h, leb-true n 4294967295 b) in
     let all : Each FitsIf (with_number p n) = (serial, ((λ b. (h, leb-true n 255 b)), (serial, (serial, (serial, tt))))) in
     subst StepFits passed.1

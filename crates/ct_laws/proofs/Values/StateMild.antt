@@ -1,4 +1,5 @@
 -- The values of a state are mild.
+use Rattle.std.proofs.lemmas.Option.{cond_some}
 use Rattle.std.proofs.Common.{◌≡◌, ℕ, zero, suc, ◌-◌, ◌≤◌, ◌<◌, ◌^◌, Bool, true, false, List, [], ◌∷◌, ◌++◌, codes, Option, Some, None}
 use Rattle.std.proofs.Common.{length, replicate, refl, sym, ◌∙◌, subst, inl, inr, arith, eq-eqb}
 use Rattle.std.specs.Option.{option_map_or, option_to_list}
@@ -265,12 +266,7 @@ module _ (w : Rehearsal) (h : IsSized w) where
 
   pub round_low : (p : ℕ) → round_of w p ≤ MAX_ROUNDS
   unfolding round_of
-  round_low p = go (if_member w p (option_map (λ c. (c.round, c.phase)) (member_of w p).current)) (place_low p)
-    where
-      go : (o : Option (ℕ × Phase)) → ((r : ℕ × Phase) → o ≡ Some r → r.0 ≤ MAX_ROUNDS) →
-          option_map_or (λ (r : ℕ × Phase). r.0) o 0 ≤ MAX_ROUNDS
-      go None low = omega arith
-      go (Some r) low = low r refl
+  round_low p = let low = place_low p in grind arith
 
   pub coordinator_low : (p : ℕ) → coordinator_of w p ≤ 16
   unfolding coordinator_of
@@ -399,13 +395,11 @@ module _ (w : Rehearsal) (h : IsSized w) where
         each_one StepFits (candidates p (member (state_of w) p)) s candidates_fit
         (found-find (λ step. is_none (cause w step)) s (candidates p (member (state_of w) p)) e).0
 
-    receipt_if : (k : ℕ) (b : Bool) (s : Step) → k ≤ MAX_ENVELOPES → (if b then Some (Receive p k) else None) ≡ Some s → StepFits s
-    receipt_if k true s few_sent e = subst StepFits (some-same (Receive p k) s e) (low, omega arith)
-    receipt_if k false s few_sent e = absurd (cc)
-
     receipt_fit : (line : List ℕ) → ((k : ℕ) → IsIn k line → k ≤ MAX_ENVELOPES) → (s : Step) → first_receipt w p line ≡ Some s → StepFits s
     receipt_fit [] small s e = absurd (cc)
-    receipt_fit (k ∷ line) small s e = receipt_if k (is_none (cause w (Receive p k))) s (small k (inl refl)) e
+    receipt_fit (k ∷ line) small s e =
+        let most = small k (inl refl) in
+        subst StepFits (cond_some (is_none (cause w (Receive p k))) (Receive p k) s e).1 (low, omega arith)
 
     next_mild : (k : ℕ) → AreMild (suc (suc (suc k))) (next_fields w p)
     unfolding next_fields

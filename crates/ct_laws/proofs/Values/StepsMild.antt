@@ -146,11 +146,7 @@ serial_fits steps (suc i) s fit at = fit_at steps i s fit at
 module _ (w : Rehearsal) (h : IsSized w) where
   instance_low : (p : ℕ) → instance_of w p ≤ MAX_INSTANCES
   unfolding instance_of
-  instance_low p = go (is_member w.setting.members p) refl
-    where
-      go : (b : Bool) → is_member w.setting.members p ≡ b → instance_of w p ≤ MAX_INSTANCES
-      go true group = rw (group, instance_of) (h.law.within.few_instances p)
-      go false group = rw (group, instance_of) (omega arith)
+  instance_low p = let few = h.law.within.few_instances p in grind arith
 
   round_mild : (k p : ℕ) → AreMild k (round_fields w p)
   unfolding round_fields
