@@ -148,9 +148,11 @@ module _ (window : Window) (w : Rehearsal) (all : IsAllowed w) (n : ℕ) (d : Dr
   sent_here zero few = refl
   sent_here (suc j) few =
       let k = d.before + suc j in
-      ap (λ l. l ++ stub_at here window from d later k (letter_at here k)) (sent_here j (omega arith))
-      ∙ ap (λ l. texts w window (sent_arrows window w d later j) ++ l) (stub_here k (omega arith) (omega arith))
-      ∙ sym (texts_both w window (sent_arrows window w d later j) (stub_arrows window w d later k))
+      cc (
+        sent_here j (omega arith),
+        stub_here k (omega arith) (omega arith),
+        texts_both w window (sent_arrows window w d later j) (stub_arrows window w d later k),
+      )
 
   own_here : arrows here window from (trail_at window w n) d later ≡ texts w window (own_at window w n d)
   own_here =
@@ -193,11 +195,12 @@ module _ (window : Window) (w : Rehearsal) (all : IsAllowed w) where
   first_here (suc n) =
       let before = all_arrows window w (trail_at window w n) in
       let next = drawn_next window (part w n) (trail_at window w n) n (slice_get w.steps n) in
-      ap (λ l. l ++ layer_next arrows_layer window (part w n) (senders w.setting (take (n + 1) w.steps)) (trail_at window w n) n
-      (drop (n + 1) w.steps) (slice_get w.steps n)) (first_here n)
-      ∙ ap (λ l. texts w window before ++ l) (next_here n (slice_get w.steps n) refl)
-      ∙ sym (texts_both w window before (all_arrows window w next))
-      ∙ ap (texts w window) (sym (flat_map-append (own_of window w) (trail_at window w n) next))
+      cc (
+        first_here n,
+        next_here n (slice_get w.steps n) refl,
+        texts_both w window before (all_arrows window w next),
+        flat_map-append (own_of window w) (trail_at window w n) next,
+      )
 
   pub layer_texts : whole_layer arrows_layer window w ≡ texts w window (all_arrows window w (whole_trail window w))
   layer_texts = first_here (length w.steps)

@@ -30,7 +30,8 @@ use Rattle.ct_walk.specs.declared.options.WalkOptions.{WalkOptions}
 use Rattle.ct_laws.specs.Places.{AreAllowed, behind}
 use Rattle.ct_laws.specs.Walks.{HaveNoSuspicion, is_suspicion}
 use Rattle.ct_laws.proofs.Deeds.{Grows, grows_not, grows_on}
-use Rattle.ct_laws.proofs.Lasting.{AreFalse, all_false, false_set, false_there, suspects_said, suspects_yes}
+use Rattle.ct_laws.proofs.Finding.{each_get, each_replicate, each_set}
+use Rattle.ct_laws.proofs.Lasting.{AreFalse, suspects_said, suspects_yes}
 use Rattle.ct_laws.proofs.Rates.{AllRated, never_yes, rated_first, rated_there, still_rated}
 
 -- ---- what is tried without a yes
@@ -142,7 +143,7 @@ tries_no w p serial said nay = subst (λ b. IsCalm (tries w p serial b)) (sym na
 
 none_lasts : (o : WalkOptions) (s : List Bool) (asks : Option Ask) (said : Bool) → AreFalse s → may_last o s asks said ≡ false
 none_lasts o s None said h = refl
-none_lasts o s (Some ask) said h = let no = false_there s (at_ask ask) h in grind arith
+none_lasts o s (Some ask) said h = let no = each_get (λ b. b ≡ false) s (at_ask ask) false h refl in grind arith
 
 never_suspects : (o : WalkOptions) (w : Walk) (p : ℕ) → IsSilent w → suspects o w p ≡ false
 never_suspects o w p h =
@@ -158,7 +159,7 @@ tries_quiet false o w p serial h = tt
 
 still_false : (s : List Bool) (asks : Option Ask) (b : Bool) → AreFalse s → b ≡ false → AreFalse (after_suspicion s asks b)
 still_false s None b h nay = h
-still_false s (Some ask) b h nay = false_set s (at_ask ask) b h nay
+still_false s (Some ask) b h nay = each_set (λ b. b ≡ false) s (at_ask ask) b h nay
 
 driven_silent : (quiet : Bool) (o : WalkOptions) (w : Walk) (p : ℕ) → AreSilent quiet w → AreSilent quiet (driven o w p)
 unfolding driven
@@ -279,7 +280,7 @@ first_silent : (o : WalkOptions) (until : Option Goal) → o.run.rate ≡ 0 → 
 unfolding start
 first_silent o until h = record {
   rated = subst (λ rate. AllRated rate (first_detectors o.run o.run.members)) h (rated_first o.run o.run.members);
-  none = all_false 256;
+  none = each_replicate (λ b. b ≡ false) 256 false refl;
 }
 
 walked_goes : (quiet : Bool) (o : WalkOptions) (until : Option Goal) → AreSilent quiet (start o until) →

@@ -98,42 +98,19 @@ end_mild : (step : Step) (quiet : Bool) → IsMild (Arrows.end_class step quiet)
 end_mild (Lose p k) quiet = refl
 end_mild step quiet = if_mild quiet (codes " late") [] refl refl
 
--- in the path of an arrow
-abbrev in_path : Reading
-in_path = Value (codes "svg" ∷ []) (codes "path") (codes "d" ∷ codes "class" ∷ [])
-
-abbrev in_title : Reading
-in_title = Within (codes "title") (codes "path" ∷ codes "svg" ∷ [])
-
-opening_reads : (kind more : List ℕ) → IsMild kind → IsMild more → Leads in_svg (Arrows.opening_text kind more) in_path
-unfolding Arrows.opening_text
-opening_reads kind more h k = simp xml_parts
-
-who_reads : (w : Rehearsal) (k sender to : ℕ) → Leads in_path (Arrows.who_text w k sender to) in_title
-unfolding Arrows.who_text
-who_reads w k sender to = simp (xml_parts, serial_mild)
-
-end_reads : (d : Drawn) → Leads in_title (Arrows.end_text d) in_svg
-unfolding Arrows.end_text
-end_reads d = simp (xml_parts, end_word_mild)
-
-last_reads : (last : ℕ) → Leads in_title (Arrows.last_text last) in_svg
-unfolding Arrows.last_text
-last_reads last = simp xml_parts
-
 module _ (w : Rehearsal) (window : Window) (d : Drawn) where
   arrow_reads : (sender : ℕ) (begun : Option Drawn) (k : ℕ) (e : Envelope (Unit {0})) →
       IsInSvg (Arrows.arrow_text w window sender begun d k e)
-  unfolding Arrows.arrow_text
-  arrow_reads sender begun k e = simp (xml_parts, opening_reads, kind_mild, end_mild, route_mild, who_reads, begun_mild, end_reads)
+  unfolding Arrows.arrow_text Arrows.opening_text Arrows.who_text Arrows.end_text
+  arrow_reads sender begun k e = simp (xml_parts, kind_mild, end_mild, route_mild, serial_mild, begun_mild, end_word_mild)
 
   arrow_of_reads : (trail : List Drawn) (k : ℕ) (o : Option (ℕ × Envelope (Unit {0}))) → IsInSvg (Arrows.arrow_of w window trail d k o)
   arrow_of_reads trail k None = refl
   arrow_of_reads trail k (Some sent) = arrow_reads sent.0 (origin trail k) k sent.1
 
   stub_reads : (sender last k : ℕ) (e : Envelope (Unit {0})) → IsInSvg (Arrows.stub_arrow w window sender d last k e)
-  unfolding Arrows.stub_arrow
-  stub_reads sender last k e = simp (xml_parts, opening_reads, kind_mild, stub_mild, who_reads, begun_in_mild, last_reads)
+  unfolding Arrows.stub_arrow Arrows.opening_text Arrows.who_text Arrows.last_text
+  stub_reads sender last k e = simp (xml_parts, kind_mild, stub_mild, serial_mild, begun_in_mild)
 
   stub_of_reads : (later : List Step) (k : ℕ) (o : Option (ℕ × Envelope (Unit {0}))) → IsInSvg (Arrows.stub_of w window d later k o)
   stub_of_reads later k None = refl
@@ -214,37 +191,18 @@ kind_at_mild : (o : Option (Envelope (Unit {0}))) → IsMild (Marks.kind_at o)
 kind_at_mild None = refl
 kind_at_mild (Some e) = kind_mild e.wire
 
-dot_reads : (kind : List ℕ) (spot : Spot) (radius : ℕ) → IsMild kind → Leads in_group (Marks.dot_text kind spot radius) in_group
-unfolding Marks.dot_text
-dot_reads kind spot radius h = simp xml_parts
-
-circle_reads : (class : List ℕ) (spot : Spot) → IsMild class → Leads in_group (Marks.circle_text class spot) in_group
-unfolding Marks.circle_text
-circle_reads class spot h = simp xml_parts
-
-letter_reads : (letter : List ℕ) (spot : Spot) → IsMild letter → Leads in_group (Marks.letter_text letter spot) in_group
-unfolding Marks.letter_text
-letter_reads letter spot h = simp xml_parts
-
 sign_reads : (w : Rehearsal) (before : ℕ) (step : Step) (spot : Spot) → Leads in_group (Marks.sign_text w before step spot) in_group
-sign_reads w before (Receive p k) spot = dot_reads (Marks.kind_at (letter_at w k)) spot 4 (kind_at_mild (letter_at w k))
-sign_reads w before step spot =
-    simp (xml_parts, circle_reads, class_mild w before step, letter_reads, letter_of_mild step)
+unfolding Marks.dot_text Marks.circle_text Marks.letter_text
+sign_reads w before (Receive p k) spot = simp (xml_parts, kind_at_mild)
+sign_reads w before step spot = simp (xml_parts, class_mild w before step, letter_of_mild step)
 
 received_mild : (w : Rehearsal) (step : Step) → IsMild (Marks.received_kind w step)
 received_mild w (Receive p k) = kind_at_mild (letter_at w k)
 received_mild w step = refl
 
-abbrev in_name : Reading
-in_name = Within (codes "title") (codes "g" ∷ codes "svg" ∷ [])
-
-who_step_reads : (number p : ℕ) → Leads in_svg (Marks.who_text number p) in_name
-unfolding Marks.who_text
-who_step_reads number p = simp xml_parts
-
 title_reads : (w : Rehearsal) (before number : ℕ) (step : Step) → Leads in_svg (Marks.title_text w before number step) in_group
-unfolding Marks.title_text
-title_reads w before number step = simp (xml_parts, who_step_reads, detail_mild)
+unfolding Marks.title_text Marks.who_text
+title_reads w before number step = simp (xml_parts, detail_mild)
 
 entered_reads : (w : Rehearsal) (p : ℕ) (spot : Spot) → IsInSvg (Marks.entered_text w p spot)
 unfolding Marks.entered_text
@@ -273,8 +231,8 @@ unfolding Marks.mark_text
 mark_reads w d spot = simp (xml_parts, note_reads, title_reads, sign_reads)
 
 small_reads : (w : Rehearsal) (d : Drawn) (spot : Spot) → IsInSvg (Marks.small_text w d spot)
-unfolding Marks.small_text
-small_reads w d spot = simp (xml_parts, title_reads, dot_reads, received_mild)
+unfolding Marks.small_text Marks.dot_text
+small_reads w d spot = simp (xml_parts, title_reads, received_mild)
 
 -- ---- how a step is drawn
 

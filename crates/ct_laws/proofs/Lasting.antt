@@ -1,4 +1,5 @@
 -- Suspicions that last.
+use Rattle.ct_laws.proofs.Finding.{Each}
 use Rattle.std.proofs.Common.{◌≡◌, ℕ, zero, suc, Bool, true, false, List, [], ◌∷◌, refl, arith, set, get_or}
 use Rattle.std.specs.Prelude.{replicate, Option, Some, None, ⊤}
 use Rattle.rand_pcg.specs.Lcg.{Lcg}
@@ -7,22 +8,7 @@ use Rattle.ct_walk.specs.Adversary.{may_last, suspects_by}
 use Rattle.ct_walk.specs.declared.options.WalkOptions.{WalkOptions}
 
 abbrev pub AreFalse : List Bool → Type 0
-AreFalse [] = ⊤
-AreFalse (b ∷ bs) = (b ≡ false) × AreFalse bs
-
-pub false_there : (bs : List Bool) (i : ℕ) → AreFalse bs → get_or bs i false ≡ false
-false_there [] i h = refl
-false_there (b ∷ bs) zero h = h.0
-false_there (b ∷ bs) (suc i) h = false_there bs i h.1
-
-pub false_set : (bs : List Bool) (i : ℕ) (b : Bool) → AreFalse bs → b ≡ false → AreFalse (set bs i b)
-false_set [] i b h k = tt
-false_set (a ∷ bs) zero b h k = (k, h.1)
-false_set (a ∷ bs) (suc i) b h k = (h.0, false_set bs i b h.1 k)
-
-pub all_false : (n : ℕ) → AreFalse (replicate n false)
-all_false zero = tt
-all_false (suc n) = (refl, all_false n)
+AreFalse bs = Each (λ b. b ≡ false) bs
 
 -- ---- whether a suspicion lasts
 

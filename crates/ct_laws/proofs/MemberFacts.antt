@@ -82,7 +82,7 @@ heard_is w p q c there is =
     of_group w p (heard_by (member_of w p) q) there
     ∙ ap (λ o. option_and_then (λ c. option_map (λ e. (e.value, e.ts)) (estimate_from (own_ballots (member_of w p) c) q)) o) is
 
-heard_got : (w : Rehearsal) (p q : ℕ) (c : Standing) (e : HeardOf Value) → estimate_from (own_ballots (member_of w p) c) q ≡ Some e →
+pub heard_got : (w : Rehearsal) (p q : ℕ) (c : Standing) (e : HeardOf Value) → estimate_from (own_ballots (member_of w p) c) q ≡ Some e →
     HasGot w p (Est (member_of w p).last c.round q e.value e.ts)
 heard_got w p q c e is =
     let m = member_of w p in

@@ -1,4 +1,5 @@
 -- Detectors of one rate.
+use Rattle.ct_laws.proofs.Finding.{Each, each_both, each_set}
 use Rattle.std.proofs.Common.{◌≡◌, ◌+◌, ◌-◌, ℕ, zero, suc, true, false, List, [], ◌∷◌, ◌++◌, length, refl}
 use Rattle.std.proofs.Common.{arith, length-append, length-set, set}
 use Rattle.std.proofs.lemmas.Bool.Decides.{nat_tests}
@@ -16,23 +17,17 @@ pub never_yes : (d : SeededState) → d.rate ≡ 0 → says_yes d ≡ false
 never_yes d h = grind (arith, nat_tests)
 
 abbrev pub AllRated : ℕ → List SeededState → Type 0
-AllRated rate [] = ⊤
-AllRated rate (d ∷ ds) = (d.rate ≡ rate) × AllRated rate ds
+AllRated rate ds = Each (λ (d : SeededState). d.rate ≡ rate) ds
 
 pub rated_there : (rate : ℕ) (ds : List SeededState) (i : ℕ) (d : SeededState) → AllRated rate ds → slice_get ds i ≡ Some d → d.rate ≡ rate
 rated_there rate [] i d h is = absurd (cc is)
 rated_there rate (x ∷ ds) i d h is = grind (arith, rated_there rate ds)
 
-rated_set : (rate : ℕ) (ds : List SeededState) (i : ℕ) (d : SeededState) → AllRated rate ds → d.rate ≡ rate → AllRated rate (set ds i d)
-rated_set rate [] i d h k = tt
-rated_set rate (x ∷ ds) zero d h k = (k, h.1)
-rated_set rate (x ∷ ds) (suc i) d h k = (h.0, rated_set rate ds i d h.1 k)
-
 answered_rated : (rate : ℕ) (ds : List SeededState) (p : ℕ) (ask : Option Ask) (o : Option SeededState) → slice_get ds (p - 1) ≡ o →
     AllRated rate ds → AllRated rate (after_answer ds p ask o)
 answered_rated rate ds p None o is h = h
 answered_rated rate ds p (Some ask) None is h = h
-answered_rated rate ds p (Some ask) (Some d) is h = rated_set rate ds (p - 1) (after_ask d ask) h (rated_there rate ds (p - 1) d h is)
+answered_rated rate ds p (Some ask) (Some d) is h = each_set (λ (d : SeededState). d.rate ≡ rate) ds (p - 1) (after_ask d ask) h (rated_there rate ds (p - 1) d h is)
 
 -- an answer keeps the rates
 pub still_rated : (rate : ℕ) (ds : List SeededState) (p : ℕ) (ask : Option Ask) → AllRated rate ds →
@@ -45,13 +40,9 @@ still_many ds p None o = refl
 still_many ds p (Some ask) None = refl
 still_many ds p (Some ask) (Some d) = length-set ds (p - 1) (after_ask d ask)
 
-rated_joined : (rate : ℕ) (a b : List SeededState) → AllRated rate a → AllRated rate b → AllRated rate (a ++ b)
-rated_joined rate [] b h k = k
-rated_joined rate (d ∷ a) b h k = (h.0, rated_joined rate a b h.1 k)
-
 pub rated_first : (o : FreeOptions) (k : ℕ) → AllRated o.rate (first_detectors o k)
 rated_first o zero = tt
-rated_first o (suc k) = rated_joined o.rate (first_detectors o k) (detector_of o (suc k) ∷ []) (rated_first o k) (refl, tt)
+rated_first o (suc k) = each_both (λ (d : SeededState). d.rate ≡ o.rate) _ (detector_of o (suc k) ∷ []) (rated_first o k) (refl, tt)
 
 pub first_many : (o : FreeOptions) (k : ℕ) → length (first_detectors o k) ≡ k
 first_many o zero = refl

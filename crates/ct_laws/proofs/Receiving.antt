@@ -1,4 +1,5 @@
 -- What turns of members receive.
+use Rattle.ct_laws.proofs.Records.{at_in}
 use Rattle.std.proofs.Common.{◌≡◌, ℕ, zero, suc, Bool, true, false, List, [], ◌∷◌, refl, ap₂, ◌∙◌, drop, arith}
 use Rattle.std.specs.Prelude.{◌==◌, if◌then◌else◌, Option, Some, None, find, option_and_then, slice_get, unwrap_or}
 use Rattle.ct_names.specs.Membership.{IsIn}
@@ -11,17 +12,13 @@ use Rattle.ct_walk.specs.Adversary.{is_near, place_of, received}
 use Rattle.ct_walk.specs.Walking.{Walk, receives_at}
 use Rattle.ct_walk.specs.declared.options.WalkOptions.{WalkOptions}
 
-get_in : (xs : List ℕ) (i k : ℕ) → slice_get xs i ≡ Some k → IsIn k xs
-get_in [] i k h = absurd (cc h)
-get_in (x ∷ xs) i k h = grind (arith, get_in xs)
-
 drop_in : (n k : ℕ) (xs : List ℕ) → IsIn k (drop n xs) → IsIn k xs
 drop_in zero k xs h = h
 drop_in (suc n) k xs h = grind (arith, drop_in n k)
 
 received_by : (b : Bool) (f : ℕ → Bool) (xs : List ℕ) (place k : ℕ) →
     (if b then slice_get xs place else find f (drop place xs)) ≡ Some k → IsIn k xs
-received_by true f xs place k h = get_in xs place k h
+received_by true f xs place k h = at_in xs place k h
 received_by false f xs place k h = drop_in place k xs (found-find f k (drop place xs) h).0
 
 received_waits : (cut : ℕ) (w : Rehearsal) (p place k : ℕ) → received cut w p place ≡ Some k → IsIn k (waiting_at w p)

@@ -1,4 +1,5 @@
 -- The first steps of a record whose steps are all allowed.
+use Rattle.ct_names.specs.Membership.{IsIn}
 use Rattle.std.proofs.Common.{◌≡◌, ℕ, zero, suc, ◌+◌, ◌<◌, ◌≤◌, List, [], ◌∷◌, ◌++◌, length, take, refl, ap}
 use Rattle.std.proofs.Common.{Some, sym, ◌∙◌, subst, arith, inl, inr, eq-or-lt_of_le, replicate, length-append}
 use Rattle.std.proofs.Math.Seq.{take-length}
@@ -30,7 +31,7 @@ use Rattle.ct_model.proofs.Relay.Messages.{next-is}
 abbrev pub part : Rehearsal → ℕ → Rehearsal
 part w n = first_steps w.setting w.cells w.steps n
 
-take_next : {A : Type 0} (xs : List A) (n : ℕ) (x : A) → slice_get xs n ≡ Some x → take (suc n) xs ≡ take n xs ++ x ∷ []
+pub take_next : {A : Type 0} (xs : List A) (n : ℕ) (x : A) → slice_get xs n ≡ Some x → take (suc n) xs ≡ take n xs ++ x ∷ []
 take_next [] n x h = some-none x h
 take_next (y ∷ xs) zero x h = ap (λ z. z ∷ []) (some-same y x h)
 take_next (y ∷ xs) (suc n) x h = ap (λ l. y ∷ l) (take_next xs n x h)
@@ -39,6 +40,10 @@ pub got : {A : Type 0} (xs : List A) (n : ℕ) → n < length xs → (x : A) × 
 got [] n h = absurd (omega arith)
 got (y ∷ xs) zero h = (y, refl)
 got (y ∷ xs) (suc n) h = got xs n (omega arith)
+
+pub at_in : {A : Type 0} (xs : List A) (i : ℕ) (x : A) → slice_get xs i ≡ Some x → IsIn x xs
+at_in [] i x h = some-none x h
+at_in (y ∷ xs) i x h = grind (arith, at_in xs)
 
 pub at_of : {A : Type 0} (xs : List A) (k : ℕ) → 1 ≤ k → k ≤ length xs → (x : A) × (at_serial xs k ≡ Some x)
 at_of xs zero low high = absurd (omega arith)

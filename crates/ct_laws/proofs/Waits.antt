@@ -192,5 +192,9 @@ module _ (w : Rehearsal) (all : IsAllowed w) where
       let within_m = within w.steps m first at in
       let law = lawful w all m (omega arith) in
       here_still m n k second there u less none
-      (grind (arith, gone_next w m (actor second) k first at, law.unsent (actor second) k sends.0,
-      not_out first (actor second) k (taken_before m k sends first at)))
+      (grind (
+        arith,
+        gone_next w m (actor second) k first at,
+        law.unsent (actor second) k sends.0,
+        not_out first (actor second) k (taken_before m k sends first at),
+      ))

@@ -1,4 +1,5 @@
 -- What facts say of the state.
+use Rattle.ct_names.proofs.MemberSets.{in-everyone}
 use Rattle.std.proofs.Common.{◌≡◌, inl, inr, ◌≤◌, ◌==◌, ℕ, zero, suc, Bool, true, false, List, [], ◌∷◌, ◌++◌, length}
 use Rattle.std.proofs.Common.{not, refl, ap, sym, ◌∙◌, subst, arith, codes, decimal, bytes_eq, Option, Some, None, is_some, option_map}
 use Rattle.std.proofs.Common.{eqb-true, find, true≢false}
@@ -77,16 +78,12 @@ set_in set q h = list_any-found (λ x. x == q) q set h (grind (arith, nat_tests)
 same_test : (x y : Bool) → (x ≡ true → y ≡ true) → (y ≡ true → x ≡ true) → x ≡ y
 same_test x y to from = grind arith
 
-of_everyone : (q : ℕ) → 1 ≤ q → q ≤ MAX_MEMBERS → IsIn q everyone
-unfolding members
-of_everyone q low high = in-counting 1 MAX_MEMBERS q low (omega (arith, high))
-
 -- two sets of the members of which this is so have one text
 one_text : (P : ℕ → Type 0) (a b : List ℕ) → ((q : ℕ) → IsIn q everyone → P q → IsIn q a) → ((q : ℕ) → IsIn q a → P q) →
     ((q : ℕ) → IsIn q everyone → P q → IsIn q b) → ((q : ℕ) → IsIn q b → P q) → set_text (Some a) ≡ set_text (Some b)
 one_text P a b all_a only_a all_b only_b =
     ap (list_text 44) (same_first a b MAX_MEMBERS (λ q low high.
-    let one = of_everyone q low high in
+    let one = in-everyone q (low, high) in
     same_test (has_member a q) (has_member b q)
     (λ h. set_in b q (all_b q one (only_a q (in_set a q h))))
     (λ h. set_in a q (all_a q one (only_b q (in_set b q h))))))

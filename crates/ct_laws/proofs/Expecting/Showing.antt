@@ -57,8 +57,9 @@ use Rattle.ct_laws.proofs.Expecting.Members.{holds_so, is_of_group, of_group_so,
 use Rattle.ct_laws.proofs.Expecting.Steps.{before_so, chooses_so, concludes_so, follows_so, so_before, so_chooses, so_concludes, so_follows}
 use Rattle.ct_laws.proofs.Expecting.Steps.{none_of, so_suspects, suspects_so}
 use Rattle.ct_laws.proofs.Finding.{none_found, none_passes}
-use Rattle.ct_laws.proofs.MemberFacts.{got_heard, is_there, of_group}
+use Rattle.ct_laws.proofs.MemberFacts.{got_heard, heard_got as heard_is_got, is_there, of_group}
 use Rattle.ct_laws.proofs.Expecting.Names.{same_reason}
+use Rattle.ct_laws.proofs.Values.Bounded.{in_group as in_members}
 
 -- ---- beginnings of a record
 
@@ -127,13 +128,10 @@ ballot_got : (w : Rehearsal) (p q : ℕ) (c : Standing) (o : Option (HeardOf Val
     estimate_from (own_ballots (member_of w p) c) q ≡ o → is_some (option_map held o) ≡ true → IsHeard w p q
 ballot_got w p q c None at is h = absurd (cc h)
 ballot_got w p q c (Some e) at is h =
-    let m = member_of w p in
-    let same = own_member q (own_ballots m c).estimates e is in
-    let among = estimate_from-in (own_ballots m c) q e is in
-    let got = estimates-got m.got m.last c.round e among in
+    let list = own_ballots (member_of w p) c in
     record {
-      one = among_everyone w p q c e among same;
-      is = (c, at, (e.value, e.ts, subst (λ x. IsIn (Est m.last c.round x e.value e.ts) m.got) same got));
+      one = among_everyone w p q c e (estimate_from-in list q e is) (own_member q list.estimates e is);
+      is = (c, at, (e.value, e.ts, heard_is_got w p q c e is));
     }
 
 heard_got : (w : Rehearsal) (p q : ℕ) (o : Option Standing) → (member_of w p).current ≡ o →
@@ -148,10 +146,6 @@ got_ballot w p q one h =
     let e = got_heard m.got m.last h.0.round q h.2.0 h.2.1 one h.2.2 in
     ap (λ o. is_some (option_and_then (ballot w p q) o)) h.1
     ∙ ap (λ (o : Option (HeardOf Value)). is_some (option_map held o)) e.1
-
-in_members : (n p : ℕ) → IsIn p (members n) → IsMember n p
-unfolding members
-in_members n p h = let range = counting-range 1 n p h in (range.0, omega (arith, range.1))
 
 members_in : (n p : ℕ) → IsMember n p → IsIn p (members n)
 unfolding members

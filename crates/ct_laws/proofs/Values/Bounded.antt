@@ -1,4 +1,5 @@
 -- The numbers of a record whose steps are all allowed: those that its wires and its messages have.
+use Rattle.ct_laws.proofs.Records.{got, take_next}
 use Rattle.std.proofs.Common.{◌≡◌, ℕ, zero, suc, ◌≤◌, ◌<◌, List, [], ◌∷◌, ◌++◌, length, take, Option, Some, None, refl, sym, ap, ◌∙◌, subst}
 use Rattle.std.proofs.Common.{inl, inr, arith}
 use Rattle.std.specs.Prelude.{⊤, map, slice_get}
@@ -108,7 +109,7 @@ to_all n w [] h e never = absurd never
 to_all n w (p ∷ ps) h e (inl same) = rw same (h p (inl refl))
 to_all n w (p ∷ ps) h e (inr later) = to_all n w ps (λ q i. h q (inr i)) e later
 
-in_group : (n p : ℕ) → IsIn p (members n) → IsMember n p
+pub in_group : (n p : ℕ) → IsIn p (members n) → IsMember n p
 unfolding members
 in_group n p h = let range = counting-range 1 n p h in (range.0, omega (arith, range.1))
 
@@ -213,12 +214,15 @@ pub record HasNext (steps : List Step) (k : ℕ) : Type 0 where
   pub next : take (suc k) steps ≡ take k steps ++ step ∷ []
   pub fits : StepFits step
 
+pub fit_at : (steps : List Step) (i : ℕ) (s : Step) → AllFit steps → slice_get steps i ≡ Some s → StepFits s
+fit_at [] i s fit e = absurd (cc)
+fit_at (x ∷ steps) zero s fit e = subst StepFits (some-same x s e) fit.0
+fit_at (x ∷ steps) (suc i) s fit e = fit_at steps i s fit.1 e
+
 pub has_next : (steps : List Step) (k : ℕ) → AllFit steps → k < length steps → HasNext steps k
-has_next [] k fit h = absurd (omega arith)
-has_next (x ∷ steps) zero fit h = record { step = x; at = refl; next = refl; fits = fit.0 }
-has_next (x ∷ steps) (suc k) fit h =
-    let later = has_next steps k fit.1 (omega arith) in
-    record { step = later.step; at = later.at; next = ap (λ l. x ∷ l) later.next; fits = later.fits }
+has_next steps k fit h =
+    let here = got steps k h in
+    record { step = here.0; at = here.1; next = take_next steps k here.0 here.1; fits = fit_at steps k here.0 fit here.1 }
 
 -- a record is lawful, and its numbers are small
 pub record IsBounded (w : Rehearsal) : Type 0 where

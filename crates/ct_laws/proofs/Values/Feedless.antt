@@ -12,11 +12,12 @@ use Rattle.serde_json.specs.Written.{comma_if, compact_text, items_text, members
 use Rattle.ct_grammar.specs.Texts.{is_feed}
 use Rattle.ct_laws.specs.JsonValues.{AreRead}
 use Rattle.ct_laws.specs.Sessions.{but_nothing, lines_heard, text_of}
+use Rattle.ct_laws.proofs.Finding.{Each}
 use Rattle.ct_laws.proofs.Values.Compact.{compact_read}
 use Rattle.ct_laws.proofs.Plain.{ArePlain, IsPlain, ended, lines_ended}
 use Rattle.ct_json.specs.Fields.{lines_text}
 use Rattle.ct_json.proofs.Unescaped.{AreSelf, decimal_self}
-use Rattle.ct_laws.proofs.Values.Mild.{Each, IsMild, IsWhole, ItemsAreMild, MembersAreMild}
+use Rattle.ct_laws.proofs.Values.Mild.{IsMild, IsWhole, ItemsAreMild, MembersAreMild}
 
 both_plain : (xs ys : List ℕ) → IsPlain xs → IsPlain ys → IsPlain (xs ++ ys)
 both_plain [] ys h k = k

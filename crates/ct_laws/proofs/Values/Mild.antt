@@ -1,4 +1,5 @@
 -- Values whose numbers are whole and fit 64 bits, and that nest no deeper than so many arrays and objects.
+use Rattle.ct_laws.proofs.Finding.{Each, each_from}
 use Rattle.std.proofs.Common.{ℕ, zero, suc, ◌+◌, ◌≤◌, ◌<◌, ◌^◌, inl, inr, refl, subst, sym, List, [], ◌∷◌, ◌++◌, map, arith}
 use Rattle.std.specs.Prelude.{flat_map, ⊤}
 use Rattle.ct_names.specs.Group.{counting}
@@ -44,11 +45,6 @@ pub both_mild : (k : ℕ) (some more : List Field) → AreMild k some → AreMil
 both_mild k [] more h i = i
 both_mild k (field ∷ some) more h i = (h.0, both_mild k some more h.1 i)
 
--- it holds of each
-abbrev pub Each : {A : Type 0} → (A → Type 0) → List A → Type 0
-Each P [] = ⊤
-Each P (x ∷ xs) = P x × Each P xs
-
 pub mild_by : {A : Type 0} (k : ℕ) (P : A → Type 0) (value : A → Data) (xs : List A) → Each P xs →
     ((x : A) → P x → IsMild k (value x)) → ItemsAreMild k (items_of (map value xs))
 mild_by k P value [] each h = tt
@@ -64,30 +60,7 @@ pub mild_flat : {A : Type 0} (k : ℕ) (P : A → Type 0) (f : A → List Data) 
 mild_flat k P f [] each h = tt
 mild_flat k P f (x ∷ xs) each h = items_both k (f x) (flat_map f xs) (h x each.0) (mild_flat k P f xs each.1 h)
 
-pub each_any : {A : Type 0} (xs : List A) → Each (λ x. ⊤) xs
-each_any [] = tt
-each_any (x ∷ xs) = (tt, each_any xs)
-
--- what holds of each holds of one of them
-pub each_one : {A : Type 0} (P : A → Type 0) (xs : List A) (x : A) → Each P xs → IsIn x xs → P x
-each_one P [] x h never = absurd never
-each_one P (y ∷ xs) x h (inl same) = subst P (sym same) h.0
-each_one P (y ∷ xs) x h (inr later) = each_one P xs x h.1 later
-
-pub each_from : {A : Type 0} (P : A → Type 0) (xs : List A) → ((x : A) → IsIn x xs → P x) → Each P xs
-each_from P [] h = tt
-each_from P (x ∷ xs) h = (h x (inl refl), each_from P xs (λ y i. h y (inr i)))
-
 -- the numbers from the first on
 pub each_counted : (first k most : ℕ) → first + k ≤ most + 1 → Each (λ n. (first ≤ n) × (n ≤ most)) (counting first k)
 each_counted first k most h =
     each_from _ (counting first k) (λ x i. let range = counting-range first k x i in (range.0, omega (arith, range.1)))
-
-pub each_map : {A B : Type 0} (P : A → Type 0) (Q : B → Type 0) (f : A → B) (xs : List A) → Each P xs → ((x : A) → P x → Q (f x)) →
-    Each Q (map f xs)
-each_map P Q f [] h g = tt
-each_map P Q f (x ∷ xs) h g = (g x h.0, each_map P Q f xs h.1 g)
-
-pub each_both : {A : Type 0} (P : A → Type 0) (xs ys : List A) → Each P xs → Each P ys → Each P (xs ++ ys)
-each_both P [] ys h k = k
-each_both P (x ∷ xs) ys h k = (h.0, each_both P xs ys h.1 k)

@@ -1,4 +1,5 @@
 -- The numbers of a record that is read fit the fields that hold them.
+use Rattle.ct_laws.proofs.Finding.{Each, each_one}
 use Rattle.std.proofs.lemmas.Option.{cond_some}
 use Rattle.std.proofs.Common.{◌≡◌, ℕ, ◌+◌, ◌≤◌, Bool, true, false, List, [], ◌∷◌, Option, Some, None, Result, Ok, Err, refl, subst, sym}
 use Rattle.std.proofs.Common.{inl, inr, arith}
@@ -25,7 +26,6 @@ use Rattle.ct_records.specs.Script.{script, short_step, since, step_in, step_of,
 use Rattle.ct_records.specs.Script.{with_number}
 use Rattle.ct_records.proofs.Names.{command_is}
 use Rattle.ct_laws.specs.Fitting.{IsFitting}
-use Rattle.ct_laws.proofs.Values.Mild.{Each, each_one}
 
 -- ---- what is there where a reader takes it
 
@@ -76,11 +76,7 @@ byte_low d n e = (whole_within 0 255 d n e).1
 -- what a table gives by a name is in it
 in_named : {A B : Type 0} (shown : A → Entry B) (name : List ℕ) (xs : List A) (x : A) → named shown name xs ≡ Some x → IsIn x xs
 in_named shown name [] x e = absurd (cc)
-in_named {A} shown name (y ∷ xs) x e = go (bytes_eq name (shown y).name) e (in_named shown name xs x)
-  where
-    go : (b : Bool) → (if b then Some y else named shown name xs) ≡ Some x → (named shown name xs ≡ Some x → IsIn x xs) → IsIn x (y ∷ xs)
-    go true same later = inl (sym (some-same y x same))
-    go false same later = inr (later same)
+in_named shown name (y ∷ xs) x e = grind (arith, in_named shown name xs)
 
 command_list : (ds : List Data) (c : Command) → command_parts ds ≡ Some c → CommandFits c
 command_list [] c e = absurd (cc)

@@ -33,8 +33,9 @@ use Rattle.ct_json.specs.Json.{counts_fields, decision_value, decision_values, d
 use Rattle.ct_json.specs.Json.{members_fields, message_value, messages_at, messages_value, register_value, report_value, standing_fields}
 use Rattle.ct_json.specs.Json.{table_fields}
 use Rattle.ct_laws.specs.Fitting.{IsFitting}
+use Rattle.ct_laws.proofs.Finding.{Each, each_any, each_get, each_replicate, each_set}
 use Rattle.ct_laws.proofs.Values.Bounded.{IsSmall, SmallWire, bounded_first}
-use Rattle.ct_laws.proofs.Values.Mild.{AreMild, Each, IsMild, ItemsAreMild, both_mild, each_any, each_counted, mild_by, mild_flat}
+use Rattle.ct_laws.proofs.Values.Mild.{AreMild, IsMild, ItemsAreMild, both_mild, each_counted, mild_by, mild_flat}
 
 -- ---- records whose numbers are within the limits
 
@@ -100,24 +101,10 @@ decisions_mild k got h =
 abbrev AreWords : List ℕ → Type 0
 AreWords values = Each (λ n. n < 2 ^ 64) values
 
-zeros_words : (k : ℕ) → AreWords (replicate k 0)
-zeros_words zero = tt
-zeros_words (suc k) = (omega arith, zeros_words k)
-
-set_words : (values : List ℕ) (i n : ℕ) → AreWords values → n < 2 ^ 64 → AreWords (slice_set values i n)
-set_words [] i n h small = tt
-set_words (x ∷ values) zero n h small = (small, h.1)
-set_words (x ∷ values) (suc i) n h small = (h.0, set_words values i n h.1 small)
-
-index_word : (values : List ℕ) (i : ℕ) → AreWords values → slice_index values i < 2 ^ 64
-index_word [] i h = omega arith
-index_word (x ∷ values) zero h = h.0
-index_word (x ∷ values) (suc i) h = index_word values i h.1
-
 applied_words : (values : List ℕ) (c : Command) → AreWords values → CommandFits c → AreWords (applied values c)
-applied_words values (Set register n) h fits = let few = fits.1 in set_words values register n h (omega arith)
-applied_words values (Add register n) h fits = set_words values register _ h (omega arith)
-applied_words values (Copy from to) h fits = set_words values to _ h (index_word values from h)
+applied_words values (Set register n) h fits = let few = fits.1 in each_set (λ n. n < 2 ^ 64) values register n h (omega arith)
+applied_words values (Add register n) h fits = each_set (λ n. n < 2 ^ 64) values register _ h (omega arith)
+applied_words values (Copy from to) h fits = each_set (λ n. n < 2 ^ 64) values to _ h (each_get (λ n. n < 2 ^ 64) values from 0 h (omega arith))
 
 all_applied_words : (values : List ℕ) (messages : List Message) → AreWords values →
     ((m : Message) → IsIn m messages → CommandFits m.command)
@@ -131,7 +118,8 @@ table_mild : (k : ℕ) (messages : List Message) → ((m : Message) → IsIn m m
 unfolding table_fields
 table_mild k messages fits =
     let each = mild_by k (λ r. ⊤) (register_value (table messages)) (counting 0 REGISTERS) (each_any (counting 0 REGISTERS))
-    (λ r t. index_word (table messages) r (all_applied_words zeros messages (zeros_words 16) fits)) in
+    (λ r t. each_get (λ n. n < 2 ^ 64) (table messages) r 0
+    (all_applied_words zeros messages (each_replicate (λ n. n < 2 ^ 64) 16 0 (omega arith)) fits) (omega arith)) in
     (each, tt)
 
 -- ---- a member, and the whole

@@ -50,9 +50,11 @@ use Rattle.ct_json.specs.JsonParts.{heard_fields, heard_if, heard_value, heard_v
 use Rattle.ct_json.specs.JsonParts.{replies_fields, set_field, set_value, set_values, votes_fields}
 use Rattle.ct_json.specs.JsonState.{chances_fields, enabled_fields, enabled_values, member_value, next_fields, next_steps, refusal_value}
 use Rattle.ct_json.specs.JsonState.{refusal_values, refused_fields, state_values, steps_fields, waiting_fields, waiting_value, whole_value}
+use Rattle.ct_laws.proofs.Finding.{Each, each_both, each_from, each_map, each_one}
+use Rattle.ct_laws.proofs.Records.{at_in}
 use Rattle.ct_laws.proofs.Values.Bounded.{SmallWire}
-use Rattle.ct_laws.proofs.Values.Mild.{AreMild, Each, IsMild, ItemsAreMild, both_mild, each_both, each_counted, each_from, each_map}
-use Rattle.ct_laws.proofs.Values.Mild.{each_one, mild_by, mild_flat}
+use Rattle.ct_laws.proofs.Values.Mild.{AreMild, IsMild, ItemsAreMild, both_mild, each_counted}
+use Rattle.ct_laws.proofs.Values.Mild.{mild_by, mild_flat}
 use Rattle.ct_laws.proofs.Values.ReportMild.{IsSized, counts_mild, each_member, facts, got_small, group_mild, history_mild, messages_mild}
 use Rattle.ct_laws.proofs.Values.ReportMild.{standing_mild}
 
@@ -72,18 +74,10 @@ wire_mild : (k n : ℕ) (x : Wire) (v : Value) → n ≤ 16 → SmallWire n x �
 unfolding wire_fields vote_fields messages_at
 wire_mild k n (Message m) v few h = (tt, (tt, tt))
 wire_mild k n (Est at r p u ts) v few h =
-    let instance : at ≤ MAX_INSTANCES = h.0 in
-    let round : r ≤ MAX_ROUNDS = h.1 in
-    let from : p ≤ n = h.2 in
-    let last : ts ≤ MAX_ROUNDS = h.3 in
-    (tt, (omega arith, (omega arith, (omega arith, estimate_mild k v ts last))))
+    (tt, (omega (arith, h.0), (omega (arith, h.1), (omega (arith, h.2), estimate_mild k v ts h.3))))
 wire_mild k n (Prop at r u) v few h = (tt, (omega (arith, h.0), (omega (arith, h.1), (messages_mild k v, tt))))
-wire_mild k n (Ack at r p) v few h =
-    let from : p ≤ n = h.2 in
-    (tt, (omega (arith, h.0), (omega (arith, h.1), (omega arith, tt))))
-wire_mild k n (Nack at r p) v few h =
-    let from : p ≤ n = h.2 in
-    (tt, (omega (arith, h.0), (omega (arith, h.1), (omega arith, tt))))
+wire_mild k n (Ack at r p) v few h = (tt, (omega (arith, h.0), (omega (arith, h.1), (omega (arith, h.2), tt))))
+wire_mild k n (Nack at r p) v few h = (tt, (omega (arith, h.0), (omega (arith, h.1), (omega (arith, h.2), tt))))
 wire_mild k n (Dec at r u) v few h = (tt, (omega (arith, h.0), (omega (arith, h.1), (messages_mild k v, tt))))
 
 letter_mild : (k n : ℕ) (o : Option Envelope) (v : Value) → n ≤ 16 → ((e : Envelope) → o ≡ Some e → SmallWire n e.wire × (e.to ≤ n)) →
@@ -92,14 +86,9 @@ letter_mild k n None v few h = tt
 letter_mild k n (Some e) v few h =
     let both = h e refl in let low : e.to ≤ n = both.1 in (omega arith, wire_mild k n e.wire v few both.0)
 
-get_in : {A : Type 0} (xs : List A) (i : ℕ) (x : A) → slice_get xs i ≡ Some x → IsIn x xs
-get_in [] i x e = absurd (cc)
-get_in (y ∷ xs) zero x e = inl (cc)
-get_in (y ∷ xs) (suc i) x e = inr (get_in xs i x e)
-
 serial_in : {A : Type 0} (xs : List A) (k : ℕ) (x : A) → at_serial xs k ≡ Some x → IsIn x xs
 serial_in xs zero x e = absurd (cc)
-serial_in xs (suc k) x e = get_in xs k x e
+serial_in xs (suc k) x e = at_in xs k x e
 
 sender_mild : (k : ℕ) (sender : Option ℕ) → ((p : ℕ) → sender ≡ Some p → p ≤ 16) → AreMild k (sender_fields sender)
 sender_mild k None h = tt
@@ -132,9 +121,7 @@ senders_in s g (step ∷ ss) p h = go (next s g step) refl (λ mid i. senders_in
 
 pub command_mild : (k : ℕ) (c : Command) → CommandFits c → IsMild (suc k) (command_data c)
 command_mild k c h =
-    let first = h.0 in
-    let rest = amount_fits (command_entry c).rest h.1 in
-    (tt, (omega arith, (omega arith, tt)))
+    (tt, (omega (arith, h.0), (omega (arith, amount_fits (command_entry c).rest h.1), tt)))
 
 rest_mild : (k : ℕ) (r : Rest) → RestFits r → ItemsAreMild (suc k) (rest_data r)
 rest_mild k steps.nothing h = tt

@@ -46,10 +46,11 @@ use Rattle.ct_laws.specs.Fitting.{IsFitting}
 use Rattle.ct_laws.specs.JsonSteps.{asked_values, refused_values, shown_values, step_value, steps_values}
 use Rattle.ct_laws.specs.JsonValues.{AreRead}
 use Rattle.ct_laws.specs.Sessions.{lines_heard}
+use Rattle.ct_laws.proofs.Finding.{Each, each_both, each_from}
 use Rattle.ct_laws.proofs.LetterFacts.{is_last}
 use Rattle.ct_laws.proofs.Values.Feedless.{lines_read}
-use Rattle.ct_laws.proofs.Values.Bounded.{HasNext, has_next}
-use Rattle.ct_laws.proofs.Values.Mild.{AreMild, Each, IsMild, both_mild, each_both, each_from, mild_by}
+use Rattle.ct_laws.proofs.Values.Bounded.{HasNext, fit_at, has_next}
+use Rattle.ct_laws.proofs.Values.Mild.{AreMild, IsMild, both_mild, mild_by}
 use Rattle.ct_laws.proofs.Values.ReportMild.{IsSized, messages_mild, sized_first}
 use Rattle.ct_laws.proofs.Values.StateMild.{command_mild, coordinator_low, envelope_mild, estimate_field_mild, heard_low, own_low}
 use Rattle.ct_laws.proofs.Values.StateMild.{part_mild, replies_mild, round_low, step_mild}
@@ -115,11 +116,6 @@ shown_same selection w number refusal =
 actor_low : (s : Step) → StepFits s → actor s ≤ 255
 actor_low (Submit p c) h = h.0
 actor_low _ h = h.0
-
-fit_at : (steps : List Step) (i : ℕ) (s : Step) → AllFit steps → slice_get steps i ≡ Some s → StepFits s
-fit_at [] i s fit e = absurd (cc)
-fit_at (x ∷ steps) zero s fit e = subst StepFits (some-same x s e) fit.0
-fit_at (x ∷ steps) (suc i) s fit e = fit_at steps i s fit.1 e
 
 head_mild : (k number : ℕ) (step : Step) → number < 2 ^ 64 → StepFits step → AreMild k (head_fields number step)
 unfolding head_fields
