@@ -11,9 +11,8 @@ use Rattle.ct_names.proofs.Lists.{both-right}
 use Rattle.ct_model.specs.Rehearsal.{Rehearsal}
 use Rattle.ct_model.specs.declared.envelope.Envelope.{Envelope}
 use Rattle.ct_model.specs.declared.step.Step.{Step}
-use Rattle.ct_model.specs.declared.step.Step.TheVariants.{Receive, Lose, Repeat}
-use Rattle.ct_model.proofs.Basics.Options.{some-none, some-same}
-use Rattle.ct_model.proofs.Basics.Tests.{number_same, or_cases, same_number}
+use Rattle.ct_model.proofs.Basics.Options.{some-none}
+use Rattle.ct_model.proofs.Basics.Tests.{or_cases}
 use Rattle.ct_records.specs.Replay.{IsAllowed}
 use Rattle.ct_show.specs.Facts.{returns, takes}
 use Rattle.ct_diagram.specs.Trail.{is_taken, origin, puts, returned, taken}

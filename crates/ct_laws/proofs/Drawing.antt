@@ -2,8 +2,7 @@
 use Rattle.std.proofs.Common.{◌≡◌, ◌+◌, ◌-◌, ℕ, zero, suc, Bool, true, false, List, [], ◌∷◌, ◌++◌, refl, ap, sym, ◌∙◌, subst, arith}
 use Rattle.std.proofs.lemmas.Bool.{cond_both}
 use Rattle.std.proofs.lemmas.List.{append_cancel_left}
-use Rattle.std.specs.Prelude.{◌==◌, ◌&&◌, not, get_or, if◌then◌else◌, Option, Some, None, is_none, option_map, slice_get, ⊤}
-use Rattle.rand_pcg.specs.Lcg.{Lcg}
+use Rattle.std.specs.Prelude.{if◌then◌else◌, Option, Some, None, is_none, option_map, slice_get, ⊤}
 use Rattle.ct_names.specs.Prefix.{IsPrefix}
 use Rattle.ct_names.specs.declared.refusal.Refusal.{Refusal}
 use Rattle.ct_model.specs.Cause.{cause}
@@ -22,7 +21,7 @@ use Rattle.ct_program.specs.FreeOptions.{setting_of}
 use Rattle.ct_program.specs.Seeding.{first_detectors}
 use Rattle.ct_play.specs.Played.{Played}
 use Rattle.ct_walk.specs.Shown.{is_shown_by}
-use Rattle.ct_walk.specs.Adversary.{after_place, after_suspicion, at_ask, may_last, suspects_by, tries}
+use Rattle.ct_walk.specs.Adversary.{after_place, after_suspicion, at_ask, may_last, tries}
 use Rattle.ct_walk.specs.Walking.{Walk, after_chance, after_entry, after_script, answer, changed_now, drawn}
 use Rattle.ct_walk.specs.Walking.{driven, entered, lasts, left_of, made_by, most_turns}
 use Rattle.ct_walk.specs.Walking.{receives_at, start, suspects, turned, walked, walked_for}

@@ -21,12 +21,11 @@ use Rattle.ct_diagram.specs.Grid.{spot_of}
 use Rattle.ct_diagram.specs.Marks
 use Rattle.ct_diagram.specs.Routes
 use Rattle.ct_diagram.specs.Shades
-use Rattle.ct_diagram.specs.Sight.{is_wide}
 use Rattle.ct_diagram.specs.Trail.{is_taken, origin}
 use Rattle.ct_diagram.specs.declared.window.Window.{Window}
 use Rattle.ct_laws.specs.Diagrams.{Drawn}
 use Rattle.ct_laws.proofs.Reader.{Reading}
-use Rattle.ct_laws.proofs.Reader.Reading.{Within, Value}
+use Rattle.ct_laws.proofs.Reader.Reading.{Within}
 use Rattle.ct_laws.proofs.MildTexts.{detail_mild, estimate_of_mild, letter_of_mild, mild_parts, round_mild, serial_mild}
 use Rattle.ct_laws.proofs.Reading.{IsMild, Leads, if_mild, stays_value, stays_within}
 

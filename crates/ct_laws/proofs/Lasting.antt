@@ -1,7 +1,7 @@
 -- Suspicions that last.
 use Rattle.ct_laws.proofs.Finding.{Each}
-use Rattle.std.proofs.Common.{◌≡◌, ℕ, zero, suc, Bool, true, false, List, [], ◌∷◌, refl, arith, set, get_or}
-use Rattle.std.specs.Prelude.{replicate, Option, Some, None, ⊤}
+use Rattle.std.proofs.Common.{◌≡◌, Bool, true, false, List, arith}
+use Rattle.std.specs.Prelude.{Option}
 use Rattle.rand_pcg.specs.Lcg.{Lcg}
 use Rattle.ct_detect.specs.declared.ask.Ask.{Ask}
 use Rattle.ct_walk.specs.Adversary.{may_last, suspects_by}

@@ -1,9 +1,9 @@
 -- Detectors of one rate.
 use Rattle.ct_laws.proofs.Finding.{Each, each_both, each_set}
 use Rattle.std.proofs.Common.{◌≡◌, ◌+◌, ◌-◌, ℕ, zero, suc, true, false, List, [], ◌∷◌, ◌++◌, length, refl}
-use Rattle.std.proofs.Common.{arith, length-append, length-set, set}
+use Rattle.std.proofs.Common.{arith, length-append, length-set}
 use Rattle.std.proofs.lemmas.Bool.Decides.{nat_tests}
-use Rattle.std.specs.Prelude.{Option, Some, None, slice_get, ⊤}
+use Rattle.std.specs.Prelude.{Option, Some, None, slice_get}
 use Rattle.ct_detect.specs.Seeded.{SeededState}
 use Rattle.ct_detect.specs.declared.ask.Ask.{Ask}
 use Rattle.ct_program.specs.Seeding.{detector_of, first_detectors}

@@ -1,5 +1,5 @@
 -- The first seed of a search.
-use Rattle.std.proofs.Common.{◌≡◌, ◌<◌, ◌≤◌, ◌+◌, ◌-◌, ℕ, zero, suc, Bool, true, false, refl, subst, arith}
+use Rattle.std.proofs.Common.{◌≡◌, ◌<◌, ◌≤◌, ◌+◌, ℕ, zero, suc, Bool, true, false, refl, subst, arith}
 use Rattle.std.specs.Prelude.{if◌then◌else◌, Some, None}
 use Rattle.ct_grammar.specs.declared.goal.Goal.{Goal}
 use Rattle.ct_walk.specs.Finding.{finds, first_of, first_seed, seeds_to}

@@ -22,8 +22,8 @@ use Rattle.ct_grammar.specs.declared.goal.Goal.{Goal}
 use Rattle.ct_program.specs.Seeding.{detector_of}
 use Rattle.ct_walk.specs.Shown.{is_shown_by}
 use Rattle.ct_walk.specs.Adversary.{after_place, is_rare, tries}
-use Rattle.ct_walk.specs.Walking.{Walk, after_answer, after_chance, after_entry, after_script, answer, changed, changed_now, drawn}
-use Rattle.ct_walk.specs.Walking.{drawn_scripts, driven, entered, has_left, is_due, is_struck, lasts, left_of, made_by, may_change}
+use Rattle.ct_walk.specs.Walking.{Walk, after_chance, after_entry, after_script, answer, changed, changed_now, drawn}
+use Rattle.ct_walk.specs.Walking.{drawn_scripts, driven, entered, has_left, is_due, is_struck, lasts, left_of, made_by}
 use Rattle.ct_walk.specs.Walking.{most_turns, receives_at, start, suspects, turned, walked, walked_for, workers}
 use Rattle.ct_walk.specs.declared.options.WalkOptions.{WalkOptions}
 use Rattle.ct_laws.specs.Tries.{AreTurns, HasTurns, IsAnswer, IsSuspicion, IsTurn, WalkTurn, after_turn, all_tries, answers_to}

@@ -3,19 +3,18 @@ use Rattle.std.proofs.Common.{◌≡◌, ℕ, zero, suc, ◌-◌, ◌<◌, ◌�
 use Rattle.std.proofs.Common.{Option, Some, None, sym, ◌∙◌, subst, arith}
 use Rattle.std.proofs.lemmas.Bool.Decides.{nat_tests}
 use Rattle.std.specs.Prelude.{slice_get, is_some, ◌==◌, ◌&&◌, ◌||◌, option_and_then}
-use Rattle.ct_names.proofs.Lists.{both, contrary}
+use Rattle.ct_names.proofs.Lists.{contrary}
 use Rattle.ct_model.specs.declared.step.Step.{Step}
-use Rattle.ct_model.specs.declared.step.Step.TheVariants.{Receive, Lose, Repeat}
 use Rattle.ct_model.specs.Actor.{actor}
 use Rattle.ct_model.specs.AtValue.{Envelope}
 use Rattle.ct_model.specs.Lawful.{IsAway, IsLetter, NamesWaiting, is_waiting}
-use Rattle.ct_model.specs.Rehearsal.{Rehearsal, state_of, line_of}
+use Rattle.ct_model.specs.Rehearsal.{Rehearsal, state_of}
 use Rattle.ct_model.specs.State.{at_serial}
 use Rattle.ct_model.specs.Stamps.{is_gone}
 use Rattle.ct_model.specs.Next.{addressed, wire_to}
-use Rattle.ct_model.specs.Waiting.{has_serial, line_change}
+use Rattle.ct_model.specs.Waiting.{line_change}
 use Rattle.ct_model.proofs.Basics.Options.{some-none, some-same, when-some}
-use Rattle.ct_model.proofs.Basics.Tests.{and_false, not_true, same_number, self_number}
+use Rattle.ct_model.proofs.Basics.Tests.{not_true, same_number}
 use Rattle.ct_model.proofs.Record.Envelopes.{sent_serial, waiting_letter}
 use Rattle.ct_model.proofs.Record.Stamps.{is_gone-push, restores, takes as takes_out}
 use Rattle.ct_records.specs.Replay.{IsAllowed}

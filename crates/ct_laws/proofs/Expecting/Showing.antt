@@ -12,7 +12,7 @@ use Rattle.ct_names.specs.Membership.{IsIn}
 use Rattle.ct_names.specs.RefusalText.{refusal_text}
 use Rattle.ct_names.specs.Value.{Value}
 use Rattle.ct_names.specs.declared.refusal.Refusal.{Refusal}
-use Rattle.ct_names.proofs.Groups.{counting-range, in-counting}
+use Rattle.ct_names.proofs.Groups.{in-counting}
 use Rattle.ct_names.proofs.Lists.{IsIn-filter, IsIn-filter_from, IsIn-filter_passes, both, both-left, both-right, contrary}
 use Rattle.ct_names.proofs.Lists.{found-list_any, from_filter_map, list_any-found, not-false, not-true, passes-list_all}
 use Rattle.ct_model.specs.AtValue.{Standing}
@@ -24,9 +24,8 @@ use Rattle.ct_model.specs.Rehearsal.{Rehearsal, empty, extended, state_of}
 use Rattle.ct_model.specs.State.{delivered, is_crashed}
 use Rattle.ct_model.specs.declared.step.Step.{Step}
 use Rattle.ct_model.specs.declared.step.Step.TheVariants.{Choose}
-use Rattle.ct_model.specs.declared.wire.Wire.TheVariants.{Est}
 use Rattle.ct_model.proofs.Basics.Tests.{not_true, or_cases, or_left, or_right}
-use Rattle.ct_model.proofs.Consensus.Readings.{estimate_from-in, estimates-got}
+use Rattle.ct_model.proofs.Consensus.Readings.{estimate_from-in}
 use Rattle.ct_model.proofs.Record.Allowed.{allowed-lawful, cause-allowed}
 use Rattle.ct_model.proofs.Record.Start.{lawful-first}
 use Rattle.ct_choices.specs.Choices.{has_crashed}
@@ -51,7 +50,7 @@ use Rattle.ct_play.specs.Played.{Played, first_part}
 use Rattle.ct_laws.specs.Expectations.{HasEstimate}
 use Rattle.ct_laws.specs.Facts.{Stands}
 use Rattle.ct_laws.specs.Places.{AreAllowed, EachIsAllowed, behind}
-use Rattle.ct_laws.specs.Showing.{AreMet, Claims, IsAt, IsEnough, IsOf, IsWhen, RefusesHeard}
+use Rattle.ct_laws.specs.Showing.{AreMet, Claims, IsEnough, IsOf, IsWhen, RefusesHeard}
 use Rattle.ct_laws.proofs.Deeds.{both_behind, nothing_behind}
 use Rattle.ct_laws.proofs.Expecting.Members.{holds_so, is_of_group, of_group_so, own_member, so_holds}
 use Rattle.ct_laws.proofs.Expecting.Steps.{before_so, chooses_so, concludes_so, follows_so, so_before, so_chooses, so_concludes, so_follows}

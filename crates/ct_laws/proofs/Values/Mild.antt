@@ -1,9 +1,8 @@
 -- Values whose numbers are whole and fit 64 bits, and that nest no deeper than so many arrays and objects.
 use Rattle.ct_laws.proofs.Finding.{Each, each_from}
-use Rattle.std.proofs.Common.{ℕ, zero, suc, ◌+◌, ◌≤◌, ◌<◌, ◌^◌, inl, inr, refl, subst, sym, List, [], ◌∷◌, ◌++◌, map, arith}
+use Rattle.std.proofs.Common.{ℕ, zero, suc, ◌+◌, ◌≤◌, ◌<◌, ◌^◌, List, [], ◌∷◌, ◌++◌, map, arith}
 use Rattle.std.specs.Prelude.{flat_map, ⊤}
 use Rattle.ct_names.specs.Group.{counting}
-use Rattle.ct_names.specs.Membership.{IsIn}
 use Rattle.ct_names.proofs.Groups.{counting-range}
 use Rattle.serde_json.specs.Data.{Num, unsigned, negative, float, Data, null, boolean, number, string, array, object, Items, no_items, item}
 use Rattle.serde_json.specs.Data.{Members, no_members, member}

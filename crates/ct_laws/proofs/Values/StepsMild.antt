@@ -9,7 +9,7 @@ use Rattle.serde_json.specs.Data.{Data}
 use Rattle.ct_names.specs.declared.limit.TheConstants.{MAX_ENVELOPES, MAX_INSTANCES, MAX_ROUNDS}
 use Rattle.ct_names.specs.declared.refusal.Refusal.{Refusal}
 use Rattle.ct_names.specs.declared.refusal.Refusal.TheVariants.{NotWaiting}
-use Rattle.ct_names.specs.Group.{counting, is_member}
+use Rattle.ct_names.specs.Group.{counting}
 use Rattle.ct_names.specs.Membership.{IsIn}
 use Rattle.ct_names.specs.Value.{Value}
 use Rattle.ct_names.proofs.Groups.{counting-range}
@@ -22,7 +22,7 @@ use Rattle.ct_model.specs.declared.wire.Wire.TheVariants.{Data as Message}
 use Rattle.ct_model.specs.Mapped.{without_value, wire_map}
 use Rattle.ct_model.specs.Rehearsal.{Rehearsal, extended, state_of}
 use Rattle.ct_model.specs.State.{at_serial}
-use Rattle.ct_model.proofs.Basics.Options.{some-none, some-same}
+use Rattle.ct_model.proofs.Basics.Options.{some-none}
 use Rattle.ct_records.specs.Fits.{AllFit, StepFits}
 use Rattle.ct_records.specs.Replay.{IsAllowed, IsRefused}
 use Rattle.ct_world.specs.Replay.{AllowsFirst, first_steps}
