@@ -109,12 +109,10 @@ module _ (window : Window) (w : Rehearsal) (all : IsAllowed w) where
       (o : Option Drawn) → IsOrigin window w n k o → o ≡ from
   from_is n k e at None way None h = refl
   from_is n k e at None way (Some b) h =
-      let below = h.1 in
-      contrary (puts k b) h.3 (way.1 b (whole_has window w h.0 b h.2) (omega arith))
+      contrary (puts k b) h.3 (way.1 b (whole_has window w h.0 b h.2) (omega (arith, h.1)))
   from_is n k e at (Some d) way None h =
       let a = in_whole window w d way.0 in
-      let less = way.2.1 in
-      contrary (puts k d) way.1 (h a.index d (omega arith) a.is)
+      contrary (puts k d) way.1 (h a.index d (omega (arith, way.2.1)) a.is)
   from_is n k e at (Some d) way (Some b) h =
       let a = in_whole window w d way.0 in
       let below = h.1 in

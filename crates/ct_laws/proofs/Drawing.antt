@@ -30,8 +30,7 @@ use Rattle.ct_laws.specs.Places.{AreAllowed, behind}
 use Rattle.ct_laws.specs.Walks.{HaveNoSuspicion, is_suspicion}
 use Rattle.ct_laws.proofs.Deeds.{Grows, grows_not, grows_on}
 use Rattle.ct_laws.proofs.Finding.{each_get, each_replicate, each_set}
-use Rattle.ct_laws.proofs.Lasting.{AreFalse, suspects_said, suspects_yes}
-use Rattle.ct_laws.proofs.Rates.{AllRated, never_yes, rated_first, rated_there, still_rated}
+use Rattle.ct_laws.proofs.Rates.{AllRated, AreFalse, never_yes, rated_first, rated_there, still_rated, suspects_said, suspects_yes}
 
 -- ---- what is tried without a yes
 

@@ -73,9 +73,7 @@ IsKept : List ℕ → List ℕ → Type 0
 IsKept line whole = (line ≡ whole) ⊎ ((nat_lt LONGEST (length line) ≡ true) × (nat_lt LONGEST (length whole) ≡ true))
 
 longer : (n : ℕ) (line : List ℕ) (byte : ℕ) → nat_lt n (length line) ≡ true → nat_lt n (length (line ++ byte ∷ [])) ≡ true
-longer n line byte h =
-    let more : length (line ++ byte ∷ []) ≡ length line + 1 = length-append line (byte ∷ []) in
-    grind (arith, nat_tests)
+longer n line byte h = grind (arith, nat_tests, length-append line (byte ∷ []))
 
 same_on : (c : Bool) (line : List ℕ) (byte : ℕ) → nat_lt LONGEST (length line) ≡ c →
     IsKept (if c then line else line ++ byte ∷ []) (line ++ byte ∷ [])

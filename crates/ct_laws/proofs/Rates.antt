@@ -1,14 +1,17 @@
--- Detectors of one rate.
+-- Detectors of one rate, and suspicions that last.
 use Rattle.ct_laws.proofs.Finding.{Each, each_both, each_set}
-use Rattle.std.proofs.Common.{◌≡◌, ◌+◌, ◌-◌, ℕ, zero, suc, true, false, List, [], ◌∷◌, ◌++◌, length, refl}
+use Rattle.std.proofs.Common.{◌≡◌, ◌+◌, ◌-◌, ℕ, zero, suc, Bool, true, false, List, [], ◌∷◌, ◌++◌, length, refl}
 use Rattle.std.proofs.Common.{arith, length-append, length-set}
 use Rattle.std.proofs.lemmas.Bool.Decides.{nat_tests}
 use Rattle.std.specs.Prelude.{Option, Some, None, slice_get}
+use Rattle.rand_pcg.specs.Lcg.{Lcg}
 use Rattle.ct_detect.specs.Seeded.{SeededState}
 use Rattle.ct_detect.specs.declared.ask.Ask.{Ask}
 use Rattle.ct_program.specs.Seeding.{detector_of, first_detectors}
 use Rattle.ct_program.specs.declared.free_options.FreeOptions.{FreeOptions}
+use Rattle.ct_walk.specs.Adversary.{may_last, suspects_by}
 use Rattle.ct_walk.specs.Walking.{after_answer, after_ask, says_yes}
+use Rattle.ct_walk.specs.declared.options.WalkOptions.{WalkOptions}
 
 pub always_yes : (d : SeededState) → d.rate ≡ 256 → says_yes d ≡ true
 always_yes d h = grind (arith, nat_tests)
@@ -46,8 +49,25 @@ rated_first o (suc k) = each_both (λ (d : SeededState). d.rate ≡ o.rate) _ (d
 
 pub first_many : (o : FreeOptions) (k : ℕ) → length (first_detectors o k) ≡ k
 first_many o zero = refl
-first_many o (suc k) =
-    let joined : length (first_detectors o k ++ detector_of o (suc k) ∷ []) ≡ length (first_detectors o k) + 1 =
-    length-append (first_detectors o k) (detector_of o (suc k) ∷ []) in
-    let fewer : length (first_detectors o k) ≡ k = first_many o k in
-    omega (arith, joined, fewer)
+first_many o (suc k) = omega (arith, length-append (first_detectors o k) (detector_of o (suc k) ∷ []), first_many o k)
+
+-- ---- whether a suspicion lasts
+
+abbrev pub AreFalse : List Bool → Type 0
+AreFalse bs = Each (λ b. b ≡ false) bs
+
+-- where the detector says yes no word is drawn
+yes_lasts : (o : WalkOptions) (s : List Bool) (asks : Option Ask) → may_last o s asks true ≡ false
+yes_lasts o s asks = grind arith
+
+-- nor where no suspicion lasts
+pub never_lasts : (o : WalkOptions) (s : List Bool) (asks : Option Ask) (said : Bool) → o.lasting ≡ 0 → may_last o s asks said ≡ false
+never_lasts o s asks said h = grind arith
+
+pub suspects_said : (o : WalkOptions) (draws : Lcg) (lasts said : Bool) → lasts ≡ false → suspects_by o draws lasts said ≡ said
+suspects_said o draws lasts said h = grind arith
+
+pub suspects_yes : (o : WalkOptions) (draws : Lcg) (s : List Bool) (asks : Option Ask) (said : Bool) → said ≡ true →
+    suspects_by o draws (may_last o s asks said) said ≡ true
+suspects_yes o draws s asks true h = suspects_said o draws (may_last o s asks true) true (yes_lasts o s asks)
+suspects_yes o draws s asks false h = absurd (cc h)

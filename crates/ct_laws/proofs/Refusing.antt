@@ -24,7 +24,6 @@ refused_on : (t u : Progress) (line : List ℕ) (lines : List (List ℕ)) (stopp
     IsRefusedAt u lines stopped → IsRefusedAt t (line ∷ lines) stopped
 refused_on t u line lines stopped on h =
     let number : u.number ≡ t.number + 1 = line_number t u line on in
-    let at : stopped.at ≡ u.number + length h.before + 1 = h.at in
     record {
       before = line ∷ h.before;
       line = h.line;
@@ -33,23 +32,21 @@ refused_on t u line lines stopped on h =
       there = h.there;
       taken = ap (λ (r : Result Progress Stopped). go_on r (λ v. after_lines v h.before)) on ∙ h.taken;
       refused = h.refused;
-      at = omega (arith, number, at);
+      at = omega (arith, number, h.at);
     }
 
 refused_here : (t : Progress) (line : List ℕ) (lines : List (List ℕ)) (stopped : Stopped) → after_line t line ≡ Err stopped →
     IsRefusedAt t (line ∷ lines) stopped
-refused_here t line lines stopped h =
-    let at : stopped.at ≡ t.number + 1 = line_at t stopped line h in
-    record {
-      before = [];
-      line = line;
-      later = lines;
-      is = refl;
-      there = t;
-      taken = refl;
-      refused = h;
-      at = omega (arith, at);
-    }
+refused_here t line lines stopped h = record {
+  before = [];
+  line = line;
+  later = lines;
+  is = refl;
+  there = t;
+  taken = refl;
+  refused = h;
+  at = omega (arith, line_at t stopped line h);
+}
 
 refused_by : (t : Progress) (line : List ℕ) (lines : List (List ℕ)) (stopped : Stopped) (r : Result Progress Stopped) →
     after_line t line ≡ r →
@@ -70,9 +67,7 @@ numbered_by : (t u : Progress) (line : List ℕ) (lines : List (List ℕ)) (r : 
     ((v : Progress) → after_lines v lines ≡ Ok u → u.number ≡ v.number + length lines) → go_on r (λ v. after_lines v lines) ≡ Ok u →
     u.number ≡ t.number + length (line ∷ lines)
 numbered_by t u line lines (Ok v) is more h =
-    let one : v.number ≡ t.number + 1 = line_number t v line is in
-    let rest : u.number ≡ v.number + length lines = more v h in
-    omega (arith, one, rest)
+    omega (arith, line_number t v line is, more v h)
 numbered_by t u line lines (Err stopped) is more h = absurd (cc h)
 
 numbered : (lines : List (List ℕ)) (t u : Progress) → after_lines t lines ≡ Ok u → u.number ≡ t.number + length lines

@@ -60,16 +60,14 @@ newest w p k e here before = record {
   low = omega arith;
   high = omega arith;
   heard = (e.0, here);
-  largest = heard_on w p k (λ more. more ≤ e.1) before (λ v more h.
-      let is : more ≡ e.1 = same_ts _ e.0 v e.1 more here h in
-      omega (arith, is));
+  largest = heard_on w p k (λ more. more ≤ e.1) before (λ v more h. omega (arith, same_ts _ e.0 v e.1 more here h));
 }
 
 same_one : (w : Rehearsal) (p k q ts : ℕ) → IsLargestTo w p k q ts →
     ((v : Value) (more : ℕ) → Hears w p (suc k) v more → more ≤ ts) → IsLargestTo w p (suc k) q ts
 same_one w p k q ts best last = record {
   low = best.low;
-  high = let high : q ≤ k = best.high in omega (arith, high);
+  high = omega (arith, best.high);
   heard = best.heard;
   largest = heard_on w p k (λ more. more ≤ ts) best.largest last;
 }
@@ -77,12 +75,10 @@ same_one w p k q ts best last = record {
 by_test : (w : Rehearsal) (p k : ℕ) (b : ℕ × ℕ) (e : Value × ℕ) (larger : Bool) → nat_lt b.1 e.1 ≡ larger → IsLargestTo w p k b.0 b.1 →
     if_member w p (heard_by (member_of w p) (suc k)) ≡ Some e →
     IsBest w p (suc k) (if larger then Some (suc k, e.1) else Some b)
-by_test w p k b e true is best here = newest w p k e here (λ other v more low high h.
-    let most : more ≤ b.1 = best.largest other v more low high h in
-    grind (arith, nat_tests))
-by_test w p k b e false is best here = same_one w p k b.0 b.1 best (λ v more h.
-    let same : more ≡ e.1 = same_ts _ e.0 v e.1 more here h in
-    grind (arith, nat_tests))
+by_test w p k b e true is best here =
+    newest w p k e here (λ other v more low high h. grind (arith, nat_tests, best.largest other v more low high h))
+by_test w p k b e false is best here =
+    same_one w p k b.0 b.1 best (λ v more h. grind (arith, nat_tests, same_ts _ e.0 v e.1 more here h))
 
 best_more : (w : Rehearsal) (p k : ℕ) (best : Option (ℕ × ℕ)) (here : Option (Value × ℕ)) → IsBest w p k best →
     if_member w p (heard_by (member_of w p) (suc k)) ≡ here → IsBest w p (suc k) (larger_of best (suc k) here)

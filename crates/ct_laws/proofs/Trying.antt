@@ -32,7 +32,7 @@ use Rattle.ct_laws.specs.Tries.WalkTurn.{OfMember, OfScript}
 use Rattle.ct_laws.proofs.Answering.{Follows, answered, answers_first, asks_so, detector_at, follows_by, follows_not, joined_answers}
 use Rattle.ct_laws.proofs.Cases.{if_either}
 use Rattle.ct_laws.proofs.Drawing.{only_asked, says_so, walk_allowed, walk_quiet}
-use Rattle.ct_laws.proofs.Lasting.{never_lasts, suspects_said, suspects_yes}
+use Rattle.ct_laws.proofs.Rates.{never_lasts, suspects_said, suspects_yes}
 use Rattle.ct_laws.proofs.Passing.{first_passes, none_pass}
 use Rattle.ct_laws.proofs.Rates.{AllRated, always_yes, first_many, never_yes, rated_first, rated_there, still_many, still_rated}
 use Rattle.ct_laws.proofs.Records.{got}
@@ -89,35 +89,31 @@ entries_first i (OfMember p answer suspects serial) turns = refl
 entries_first i (OfScript j e) turns = entries_if (i == j) e (entries_in i turns)
 
 one_more : (o : WalkOptions) (w u v : Walk) (most : ℕ) → IsOne o w u → IsMade o u v most → IsMade o w v (suc most)
-one_more o w u v most one m =
-    let few : length m.turns ≤ most = m.few in
-    record {
-      turns = one.turn ∷ m.turns;
-      are = (one.fits, subst (λ r. AreTurns o r m.turns) one.is m.are);
-      few = omega (arith, few);
-      left = λ i.
-          ap (λ l. l ++ left_of v i) (entries_first i one.turn m.turns)
-          ∙ append_assoc (entries_in i (one.turn ∷ [])) (entries_in i m.turns) (left_of v i)
-          ∙ ap (λ l. entries_in i (one.turn ∷ []) ++ l) (m.left i) ∙ one.left i;
-      answers = λ p d low is.
-          answers_first p one.turn m.turns
-          ∙ joined_answers p d (answers_to p (one.turn ∷ [])) (answers_to p m.turns) u.detectors (one.said p d low is)
-          (λ e there. m.answers p e low there) ∙ ap (λ l. first_answers d (length l)) (sym (answers_first p one.turn m.turns));
-      is = subst (λ r. v.rehearsal ≡ extended_by r (passed r (all_tries r m.turns))) one.is m.is
-          ∙ sym (first_passes w.rehearsal (tried_in w.rehearsal one.turn) (all_tries (after_turn w.rehearsal one.turn) m.turns));
-    }
+one_more o w u v most one m = record {
+  turns = one.turn ∷ m.turns;
+  are = (one.fits, subst (λ r. AreTurns o r m.turns) one.is m.are);
+  few = omega (arith, m.few);
+  left = λ i.
+      ap (λ l. l ++ left_of v i) (entries_first i one.turn m.turns)
+      ∙ append_assoc (entries_in i (one.turn ∷ [])) (entries_in i m.turns) (left_of v i)
+      ∙ ap (λ l. entries_in i (one.turn ∷ []) ++ l) (m.left i) ∙ one.left i;
+  answers = λ p d low is.
+      answers_first p one.turn m.turns
+      ∙ joined_answers p d (answers_to p (one.turn ∷ [])) (answers_to p m.turns) u.detectors (one.said p d low is)
+      (λ e there. m.answers p e low there) ∙ ap (λ l. first_answers d (length l)) (sym (answers_first p one.turn m.turns));
+  is = subst (λ r. v.rehearsal ≡ extended_by r (passed r (all_tries r m.turns))) one.is m.is
+      ∙ sym (first_passes w.rehearsal (tried_in w.rehearsal one.turn) (all_tries (after_turn w.rehearsal one.turn) m.turns));
+}
 
 none_more : (o : WalkOptions) (w u v : Walk) (most : ℕ) → IsNone w u → IsMade o u v most → IsMade o w v (suc most)
-none_more o w u v most none m =
-    let few : length m.turns ≤ most = m.few in
-    record {
-      turns = m.turns;
-      are = subst (λ r. AreTurns o r m.turns) none.is m.are;
-      few = omega (arith, few);
-      left = λ i. m.left i ∙ none.left i;
-      answers = λ p d low is. m.answers p d low (ap (λ ds. slice_get ds (p - 1)) none.same ∙ is);
-      is = subst (λ r. v.rehearsal ≡ extended_by r (passed r (all_tries r m.turns))) none.is m.is;
-    }
+none_more o w u v most none m = record {
+  turns = m.turns;
+  are = subst (λ r. AreTurns o r m.turns) none.is m.are;
+  few = omega (arith, m.few);
+  left = λ i. m.left i ∙ none.left i;
+  answers = λ p d low is. m.answers p d low (ap (λ ds. slice_get ds (p - 1)) none.same ∙ is);
+  is = subst (λ r. v.rehearsal ≡ extended_by r (passed r (all_tries r m.turns))) none.is m.is;
+}
 
 next_more : (o : WalkOptions) (w u v : Walk) (most : ℕ) → IsNext o w u → IsMade o u v most → IsMade o w v (suc most)
 next_more o w u v most (inl one) m = one_more o w u v most one m
@@ -167,20 +163,17 @@ unfolding driven
 driven_one o w p there ready =
     let asks = question w.rehearsal p in
     let d = slice_get w.detectors (p - 1) in
-    let many : length w.detectors ≡ o.run.members = ready.many in
-    let low : 1 ≤ p = there.0 in
-    let high : p ≤ o.run.members = there.1 in
     record {
       turn = OfMember p (answered asks (answer asks d)) (suspects o w p) (receives_at o w p);
       fits = record {
         there = there;
         asks = asks_so asks (answer asks d);
-        answers = is_answer o.run.rate w.detectors (p - 1) asks d refl (omega (arith, many, low, high)) ready.rated;
+        answers = is_answer o.run.rate w.detectors (p - 1) asks d refl (omega (arith, ready.many, there.0, there.1)) ready.rated;
         suspicion = suspects_so o w p;
         receipt = (receives_waiting o w p, λ scatter cuts. receives_first o w p scatter (ready.whole cuts).1);
       };
       left = λ i. refl;
-      said = λ q e from is. follows_by w.detectors q p e asks (q == p) refl from low is;
+      said = λ q e from is. follows_by w.detectors q p e asks (q == p) refl from there.0 is;
       is = refl;
     }
 
@@ -273,9 +266,8 @@ script_on o w (Some i) ready = entered_on o w i ready
 made_if : (o : WalkOptions) (w : Walk) (k : ℕ) (b : Bool) → nat_lt k w.rehearsal.setting.members ≡ b → IsReady o w →
     HasTurned o w (if b then driven o w (k + 1) else after_script w (slice_get (drawn_scripts o w) (k - w.rehearsal.setting.members)))
 made_if o w k true below ready =
-    let size : w.rehearsal.setting.members ≡ o.run.members = ready.size in
     let low : k < w.rehearsal.setting.members = grind (arith, nat_tests) in
-    driven_on o w (k + 1) (omega arith, omega (arith, low, size)) ready
+    driven_on o w (k + 1) (omega arith, omega (arith, low, ready.size)) ready
 made_if o w k false above ready = script_on o w (slice_get (drawn_scripts o w) (k - w.rehearsal.setting.members)) ready
 
 made_on : (o : WalkOptions) (w : Walk) (k : ℕ) → IsReady o w → HasTurned o w (made_by o w k)

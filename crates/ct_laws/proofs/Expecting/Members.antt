@@ -210,9 +210,7 @@ module _ (s : Played) (p : ℕ) (member : IsMember s.rehearsal.setting.members p
   there_so Up law h = up_so (is_crashed (state_of s.rehearsal) p) h
   there_so Crashed law h = crashed_so (is_crashed (state_of s.rehearsal) p) h
   there_so Idle law h = idle_by s.rehearsal p (member_of s.rehearsal p).current refl h
-  there_so (Instance k) law h =
-      let few : (member_of s.rehearsal p).last ≤ MAX_INSTANCES = law.within.few_instances p in
-      same_number k (member_of s.rehearsal p).last (omega (arith, few)) h
+  there_so (Instance k) law h = same_number k (member_of s.rehearsal p).last (omega (arith, law.within.few_instances p)) h
   there_so (Round r) law h =
       round_by s.rehearsal p r (member_of s.rehearsal p).current law refl (sym (ap round_text (place_is s.rehearsal p member)) ∙ h)
   there_so (InPhase f) law h =
@@ -220,9 +218,7 @@ module _ (s : Played) (p : ℕ) (member : IsMember s.rehearsal.setting.members p
   there_so (Refuses act reason) law h = refused_for s p act (line_is s.rehearsal p member) reason h
   there_so (May act) law h = may_so s p act (line_is s.rehearsal p member) h
   there_so (Waiting k) law h =
-      let few : length (line_of s.rehearsal p) ≤ length (state_of s.rehearsal).sent = once_waiting s.rehearsal p law in
-      let sent : length (state_of s.rehearsal).sent ≤ MAX_ENVELOPES = law.within.few_envelopes in
-      same_number k (length (line_of s.rehearsal p)) (omega (arith, few, sent))
+      same_number k (length (line_of s.rehearsal p)) (omega (arith, once_waiting s.rehearsal p law, law.within.few_envelopes))
       (sym (ap (λ l. decimal (length l)) (line_is s.rehearsal p member)) ∙ h)
   there_so (Waits pick) law h =
       waits_so s.rehearsal p (line_is s.rehearsal p member) pick (waiting_so (is_waiting s.rehearsal p pick) h)

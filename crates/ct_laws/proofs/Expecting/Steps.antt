@@ -47,8 +47,7 @@ before_so list one other h =
 pub so_before : (list : List Message) (one other : Name) → IsBefore list one other → stands_before list one other ≡ true
 unfolding stands_before
 so_before list one other h =
-    let less : h.0 < h.1 = h.4 in
-    let earlier : nat_lt h.0 h.1 ≡ true = grind (arith, nat_tests, less) in
+    let earlier : nat_lt h.0 h.1 ≡ true = grind (arith, nat_tests, h.4) in
     ap₂ is_earlier h.2 h.3 ∙ earlier
 
 -- ---- the last step
@@ -203,8 +202,7 @@ module _ (w : Rehearsal) (p : ℕ) (member : IsMember w.setting.members p) where
   so_chooses q end h =
       let ts = h.1 in
       let carried = Prop (member_of w p).last ts in
-      let low : 1 ≤ ts = h.3 in
-      let more : nat_lt 0 ts ≡ true = grind (arith, nat_tests, low) in
+      let more : nat_lt 0 ts ≡ true = grind (arith, nat_tests, h.3) in
       ap (chooses_unseen w p) (so_ends w (Choose p q) end)
       ∙ both (p == p) (is_unseen w p (if_member w p (heard_by (member_of w p) q))) (self_number p)
       (ap (is_unseen w p) (of_group w p (heard_by (member_of w p) q) member ∙ h.2)

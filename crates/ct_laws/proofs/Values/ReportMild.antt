@@ -144,28 +144,15 @@ module _ (w : Rehearsal) (h : IsSized w) where
 
   pub standing_mild : (k p : ℕ) → IsMember w.setting.members p → AreMild k (standing_fields w p)
   unfolding standing_fields
-  standing_mild k p is =
-      let low : p ≤ w.setting.members = is.1 in
-      let few = h.fitting.few_members in
-      let last = h.law.within.few_instances p in
-      (omega arith, (tt, (omega arith, (tt, tt))))
+  standing_mild k p is = omega (arith, is.1, h.fitting.few_members, h.law.within.few_instances p)
 
   pub group_mild : (k : ℕ) → AreMild k (group_fields w)
   unfolding group_fields
-  group_mild k =
-      let few = h.fitting.few_members in
-      let cells = h.fitting.few_cells in
-      let bound = h.fitting.few_bound in
-      (omega arith, (omega arith, (omega arith, (omega arith, tt))))
+  group_mild k = omega (arith, h.fitting.few_members, h.fitting.few_cells, h.fitting.few_bound)
 
   pub counts_mild : (k : ℕ) → AreMild k (counts_fields w)
   unfolding counts_fields
-  counts_mild k =
-      let steps = h.law.within.few_steps in
-      let sent = h.law.within.few_envelopes in
-      let posted = h.law.within.few_batches in
-      let cells = h.fitting.few_cells in
-      (omega arith, (omega arith, (omega arith, tt)))
+  counts_mild k = omega (arith, h.law.within.few_steps, h.law.within.few_envelopes, h.law.within.few_batches, h.fitting.few_cells)
 
   member_mild : (k p : ℕ) → IsMember w.setting.members p → IsMild (suc (suc (suc (suc k)))) (member_value w p)
   unfolding member_value

@@ -257,10 +257,7 @@ module _ (w : Rehearsal) (h : IsSized w) where
 
   pub coordinator_low : (p : ℕ) → coordinator_of w p ≤ 16
   unfolding coordinator_of
-  coordinator_low p =
-      let is : coordinator w.setting.members (round_of w p) ≤ w.setting.members =
-      (coordinator_is w.setting.members (round_of w p) h.fitting.some_members).1 in
-      omega (arith, few)
+  coordinator_low p = omega (arith, few, (coordinator_is w.setting.members (round_of w p) h.fitting.some_members).1)
 
   votes_mild : (k p : ℕ) → AreMild (suc (suc (suc k))) (votes_fields w p)
   unfolding votes_fields heard_fields
@@ -309,16 +306,13 @@ module _ (w : Rehearsal) (h : IsSized w) where
   line_low p k i =
       let waits : has_serial k (line_of w p) ≡ true = list_any-found (λ other. other == k) k (line_of w p) i (eq-eqb k k refl) in
       let was = both-left (has_serial k (serials_to p 0 (state_of w).sent)) _ (sym (h.law.waits p k) ∙ waits) in
-      let within = serials_to-within p 0 k (state_of w).sent was in
-      let sent = h.law.within.few_envelopes in
-      omega arith
+      omega (arith, serials_to-within p 0 k (state_of w).sent was, h.law.within.few_envelopes)
 
   sender_low : (k p : ℕ) → at_serial (senders w.setting w.steps) k ≡ Some p → p ≤ 16
   unfolding senders
   sender_low k p at =
       let is = senders_in w.setting (first_state w.setting) w.steps p (serial_in (senders w.setting w.steps) k p at) in
-      let low : p ≤ n = is.1 in
-      omega (arith, few)
+      omega (arith, few, is.1)
 
   waiting_mild : (k p : ℕ) → AreMild (suc (suc (suc k))) (waiting_fields w (senders w.setting w.steps) (line_of w p))
   unfolding waiting_fields
@@ -356,8 +350,7 @@ module _ (w : Rehearsal) (h : IsSized w) where
     best_fit c (Some x) e =
         let t = own_ballots (member (state_of w) p) c in
         let small = estimate_small p is c x (found-find (λ (y : Heard Value). is_largest t y.ts) x t.estimates e).0 in
-        let its : x.member ≤ n = small.0 in
-        ((low, omega (arith, few)), tt)
+        ((low, omega (arith, few, small.0)), tt)
 
     heard_fit : (o : Option Standing) →
         Each StepFits (option_to_list (option_map (Choose p) (best_heard (record (member (state_of w) p) { current = o }))))

@@ -146,11 +146,7 @@ module _ (w : Rehearsal) (h : IsSized w) where
 
   round_mild : (k p : ℕ) → AreMild k (round_fields w p)
   unfolding round_fields
-  round_mild k p =
-      let at = instance_low p in
-      let r = round_low w h p in
-      let c = coordinator_low w h p in
-      (omega arith, (omega arith, (omega arith, tt)))
+  round_mild k p = omega (arith, instance_low p, round_low w h p, coordinator_low w h p)
 
   estimated_mild : (k p : ℕ) (o : Option (Value × ℕ)) → ((x : Value × ℕ) → o ≡ Some x → x.1 ≤ MAX_ROUNDS) →
       AreMild (suc (suc k)) (estimated_fields w p o)
@@ -211,11 +207,7 @@ module _ (w : Rehearsal) (h : IsSized w) where
     where
       serial_low : (s : ℕ) → IsIn s (counting (before + 1) (length (state_of w).sent - before)) → s ≤ MAX_ENVELOPES
       serial_low s i =
-          let range = counting-range (before + 1) (length (state_of w).sent - before) s i in
-          let from = range.0 in
-          let to = range.1 in
-          let few = h.law.within.few_envelopes in
-          omega arith
+          omega (arith, counting-range (before + 1) (length (state_of w).sent - before) s i, h.law.within.few_envelopes)
 
   line_mild : (before number : ℕ) (step : Step) → number < 2 ^ 64 → StepFits step → IsMild 127 (value_in w before number step)
   unfolding value_in
@@ -231,9 +223,7 @@ module _ (w : Rehearsal) (h : IsSized w) where
   left_mild k s None is = tt
   left_mild k s (Some t) is =
       let last = is_last w.steps s (length w.steps) t is in
-      let low = last.to in
-      let few = h.law.within.few_steps in
-      ((omega arith, (step_mild k t.1 (serial_fits w.steps t.0 t.1 h.fitting.fit last.there), tt)), tt)
+      ((omega (arith, last.to, h.law.within.few_steps), (step_mild k t.1 (serial_fits w.steps t.0 t.1 h.fitting.fit last.there), tt)), tt)
 
   leaving_mild : (k s : ℕ) (refusal : Refusal) → AreMild (suc (suc (suc k))) (leaving_fields w s refusal)
   leaving_mild k s NotWaiting = left_mild k s (last_taking w.steps s (length w.steps)) refl
