@@ -121,8 +121,7 @@ module _ (window : Window) (w : Rehearsal) (all : IsAllowed w) (n : ℕ) (d : Dr
           ∙ ap (λ m. stub_arrow w window sent.0 d m k sent.1) last
 
       none_if : (b : Bool) → [] ≡ texts w window (if b then [] else [])
-      none_if true = refl
-      none_if false = refl
+      none_if b = grind arith
 
       one_if : (sent : ℕ × Envelope (Unit {0})) (b : Bool) →
           (if b then [] else stub_arrow here window sent.0 d (d.number + length later) k sent.1)

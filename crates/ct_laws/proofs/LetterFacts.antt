@@ -95,9 +95,9 @@ is_leaving w k number s l = record {
   there = l.there;
   takes = takes_so s k l.so;
   last = λ later other low there so.
-      contrary (takes other k) (so_takes other k so) (l.after later other low (at_within w.steps later other there) there).0;
+      contrary (takes other k) (so_takes other k so) (l.after later other low (at_within w.steps later other there).1 there).0;
   gone = λ later other low there so.
-      contrary (returns other k) (so_returns other k so) (l.after later other low (at_within w.steps later other there) there).1;
+      contrary (returns other k) (so_returns other k so) (l.after later other low (at_within w.steps later other there).1 there).1;
 }
 
 -- ---- and such a one is the last
@@ -139,7 +139,7 @@ taking_is w k number s l =
       not_true (takes other k) (λ yes. l.last later other low is (takes_so other k yes)),
       not_true (returns other k) (λ yes. l.gone later other low is (returns_so other k yes)),
     ))
-    (length w.steps) (at_within w.steps number s l.there)
+    (length w.steps) (at_within w.steps number s l.there).1
 
 -- ---- the facts of the envelope
 
@@ -201,10 +201,7 @@ tells_sent w p k r e is waits =
     let left = tells_leaving w p k r in
     record {
       facts = Carries k e.wire ∷ receiver e.to r ∷ left.facts;
-      is = letter_shape (serial_text w k) (place_text e.to r) (leaving_text w k r)
-          ∙ ap (λ l. l ++ (place_text e.to r ++ leaving_text w k r)) (carried_is w k e is)
-          ∙ ap (λ l. fact_text (Carries k e.wire) ++ (l ++ leaving_text w k r)) (place_is e.to r)
-          ∙ ap (λ l. fact_text (Carries k e.wire) ++ (fact_text (receiver e.to r) ++ l)) left.is;
+      is = cc (letter_shape (serial_text w k) (place_text e.to r) (leaving_text w k r), carried_is w k e is, place_is e.to r, left.is);
       are = ((refl, (e, is, refl)), (place_true w p k r e is waits, left.are));
       these = subst (λ o. NameLetter w k r o (Carries k e.wire ∷ receiver e.to r ∷ left.facts)) (sym is) (left.facts, refl, left.these);
     }

@@ -49,9 +49,9 @@ pub at_of : {A : Type 0} (xs : List A) (k : ℕ) → 1 ≤ k → k ≤ length xs
 at_of xs zero low high = absurd (omega arith)
 at_of xs (suc i) low high = got xs i (omega arith)
 
-pub at_within : {A : Type 0} (xs : List A) (k : ℕ) (x : A) → at_serial xs k ≡ Some x → k ≤ length xs
-at_within xs zero x h = omega arith
-at_within xs (suc i) x h = let less = within xs i x h in omega arith
+pub at_within : {A : Type 0} (xs : List A) (k : ℕ) (x : A) → at_serial xs k ≡ Some x → (1 ≤ k) × (k ≤ length xs)
+at_within xs zero x h = some-none x h
+at_within xs (suc i) x h = let less = within xs i x h in (omega arith, omega arith)
 
 pub part_next : (w : Rehearsal) (n : ℕ) (step : Step) → slice_get w.steps n ≡ Some step → part w (suc n) ≡ extended (part w n) step
 part_next w n step h = ap (λ (steps : List Step). record w { steps = steps }) (take_next w.steps n step h)

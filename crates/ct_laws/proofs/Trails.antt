@@ -168,19 +168,17 @@ module _ (window : Window) (w : Rehearsal) where
   -- ---- the steps of the window
 
   pub step_of : (d : Drawn) → IsIn d (whole_trail window w) → IsStepOf window w d
-  step_of d h = go (in_whole d h)
-    where
-      go : IsAmong (length w.steps) d → IsStepOf window w d
-      go a =
-          let next : suc a.index ≡ d.number = omega arith in
-          let plus : a.index + 1 ≡ d.number = omega arith in
-          let minus : a.index ≡ d.number - 1 = omega arith in
-          record {
-            drawn = subst (λ n. is_drawn window n ≡ true) plus a.is.drawn;
-            step = subst (λ n. at_serial w.steps n ≡ Some d.step) next a.is.at;
-            before = subst (λ n. d.before ≡ sent_by w n) minus a.is.before;
-            sent = subst (λ n. d.sent ≡ sent_by w n) next a.is.sent;
-          }
+  step_of d h =
+      let a = in_whole d h in
+      let next : suc a.index ≡ d.number = omega arith in
+      let plus : a.index + 1 ≡ d.number = omega arith in
+      let minus : a.index ≡ d.number - 1 = omega arith in
+      record {
+        drawn = subst (λ n. is_drawn window n ≡ true) plus a.is.drawn;
+        step = subst (λ n. at_serial w.steps n ≡ Some d.step) next a.is.at;
+        before = subst (λ n. d.before ≡ sent_by w n) minus a.is.before;
+        sent = subst (λ n. d.sent ≡ sent_by w n) next a.is.sent;
+      }
 
   step_there : (n : ℕ) (step : Step) → is_drawn window n ≡ true → at_serial w.steps n ≡ Some step →
       (d : Drawn) × IsIn d (whole_trail window w) × (d.number ≡ n)

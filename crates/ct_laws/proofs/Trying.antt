@@ -94,9 +94,12 @@ one_more o w u v most one m = record {
   are = (one.fits, subst (λ r. AreTurns o r m.turns) one.is m.are);
   few = omega (arith, m.few);
   left = λ i.
-      ap (λ l. l ++ left_of v i) (entries_first i one.turn m.turns)
-      ∙ append_assoc (entries_in i (one.turn ∷ [])) (entries_in i m.turns) (left_of v i)
-      ∙ ap (λ l. entries_in i (one.turn ∷ []) ++ l) (m.left i) ∙ one.left i;
+      cc (
+        entries_first i one.turn m.turns,
+        append_assoc (entries_in i (one.turn ∷ [])) (entries_in i m.turns) (left_of v i),
+        m.left i,
+        one.left i,
+      );
   answers = λ p d low is.
       answers_first p one.turn m.turns
       ∙ joined_answers p d (answers_to p (one.turn ∷ [])) (answers_to p m.turns) u.detectors (one.said p d low is)

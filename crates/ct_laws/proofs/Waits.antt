@@ -13,14 +13,14 @@ use Rattle.ct_model.specs.State.{at_serial}
 use Rattle.ct_model.specs.Stamps.{is_gone}
 use Rattle.ct_model.specs.Next.{addressed, wire_to}
 use Rattle.ct_model.specs.Waiting.{line_change}
-use Rattle.ct_model.proofs.Basics.Options.{some-none, some-same, when-some}
+use Rattle.ct_model.proofs.Basics.Options.{some-same, when-some}
 use Rattle.ct_model.proofs.Basics.Tests.{not_true, same_number}
 use Rattle.ct_model.proofs.Record.Envelopes.{sent_serial, waiting_letter}
 use Rattle.ct_model.proofs.Record.Stamps.{is_gone-push, restores, takes as takes_out}
 use Rattle.ct_records.specs.Replay.{IsAllowed}
 use Rattle.ct_show.specs.Facts.{returns, takes}
 use Rattle.ct_laws.specs.Diagrams.{sent_by}
-use Rattle.ct_laws.proofs.Records.{kept, lawful, next_of, onward, part, part_next, within}
+use Rattle.ct_laws.proofs.Records.{at_within, kept, lawful, next_of, onward, part, part_next, within}
 
 -- ---- a step
 
@@ -97,11 +97,7 @@ mail_away w n p k h = go (at_serial (state_of (part w n)).sent k) refl h
 
 -- one that was sent
 pub mail_sent : (w : Rehearsal) (n p k : ℕ) → IsMail w n p k → (1 ≤ k) × (k ≤ sent_by w n)
-mail_sent w n p k m = within_serial k m.there
-  where
-    within_serial : (k : ℕ) → at_serial (state_of (part w n)).sent k ≡ Some m.envelope → (1 ≤ k) × (k ≤ sent_by w n)
-    within_serial zero h = some-none m.envelope h
-    within_serial (suc i) h = let less = within (state_of (part w n)).sent i m.envelope h in (omega arith, omega arith)
+mail_sent w n p k m = at_within (state_of (part w n)).sent k m.envelope m.there
 
 -- sent by the step of an index
 abbrev pub Sends : Rehearsal → ℕ → ℕ → Type 0

@@ -11,7 +11,7 @@ use Rattle.ct_names.specs.Group.{IsMember, everyone, is_member, members}
 use Rattle.ct_names.specs.MemberSet.{has_member}
 use Rattle.ct_names.specs.Membership.{IsIn}
 use Rattle.ct_names.specs.Value.{Value}
-use Rattle.ct_names.specs.declared.limit.TheConstants.{MAX_ENVELOPES, MAX_INSTANCES, MAX_MEMBERS, MAX_ROUNDS}
+use Rattle.ct_names.specs.declared.limit.TheConstants.{MAX_MEMBERS, MAX_ROUNDS}
 use Rattle.ct_names.proofs.Groups.{in-counting, length-counting, no_longer}
 use Rattle.ct_names.proofs.Lists.{IsIn-filter, IsIn-map, both-left, found-find, found-list_any, list_any-found}
 use Rattle.ct_model.specs.AtValue.{Standing}

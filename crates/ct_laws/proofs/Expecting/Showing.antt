@@ -1,7 +1,7 @@
 -- What is shown is so, when it has to be and of those of whom it has to be.
 use Rattle.std.proofs.Common.{◌≡◌, inl, inr, ◌≤◌, ℕ, zero, suc, Bool, true, false, not, ◌&&◌, List, [], ◌∷◌}
 use Rattle.std.proofs.Common.{length, take, refl, ap, sym, ◌∙◌, subst, arith, Option, Some, None, is_some, is_none, option_map, find}
-use Rattle.std.proofs.Common.{eqb-true, leb-true, option_and_then}
+use Rattle.std.proofs.Common.{option_and_then}
 use Rattle.std.proofs.Math.Nat.{eq-or-lt_of_le}
 use Rattle.std.proofs.lemmas.Bool.Decides.{nat_tests}
 use Rattle.std.proofs.lemmas.Slice.Eq.{bytes_eq-Decides}
@@ -35,7 +35,6 @@ use Rattle.ct_grammar.specs.Reasons.{reason_text}
 use Rattle.ct_grammar.specs.declared.claim.Claim.{Claim}
 use Rattle.ct_grammar.specs.declared.claim.Claim.TheVariants as claim
 use Rattle.ct_grammar.specs.declared.claim.Extent.{Extent}
-use Rattle.ct_grammar.specs.declared.claim.Extent.TheVariants.{AtLeast, Exactly}
 use Rattle.ct_grammar.specs.declared.goal.Goal.{Goal}
 use Rattle.ct_grammar.specs.declared.reason.Reason.{Reason}
 use Rattle.ct_grammar.specs.declared.reason.Reason.TheVariants.{Rules}
@@ -85,8 +84,7 @@ lawful_part s n h =
 -- ---- claims
 
 enough_so : (extent : Extent) (count : ℕ) → is_enough extent count ≡ true → IsEnough extent count
-enough_so (Exactly n) count h = eqb-true count n h
-enough_so (AtLeast n) count h = leb-true n count h
+enough_so extent count h = grind (arith, nat_tests)
 
 so_enough : (extent : Extent) (count : ℕ) → IsEnough extent count → is_enough extent count ≡ true
 so_enough extent count h = grind (arith, nat_tests)
@@ -225,13 +223,10 @@ so_true s p c member h =
 
 -- ---- of whom
 
-none_is : (o : Option ℕ) → is_none o ≡ true → o ≡ None
-none_is o h = grind arith
-
 all_none : (s : Played) (c : Claim) (ps : List ℕ) → is_none (find (λ p. not (is_true_of s p c)) ps) ≡ true → (p : ℕ) → IsIn p ps →
     is_true_of s p c ≡ true
 all_none s c ps h p at =
-    not-false (is_true_of s p c) (none_passes (λ p. not (is_true_of s p c)) ps (none_is (find (λ p. not (is_true_of s p c)) ps) h) p at)
+    not-false (is_true_of s p c) (none_passes (λ p. not (is_true_of s p c)) ps (grind arith) p at)
 
 none_all : (s : Played) (c : Claim) (ps : List ℕ) → ((p : ℕ) → IsIn p ps → is_true_of s p c ≡ true) →
     is_none (find (λ p. not (is_true_of s p c)) ps) ≡ true

@@ -7,7 +7,7 @@ use Rattle.std.specs.Prelude.{◌==◌, find, if◌then◌else◌, is_none, opti
 use Rattle.ct_names.specs.declared.command.Command.{Command}
 use Rattle.ct_names.specs.declared.limit.TheConstants.{MAX_ENVELOPES, MAX_ROUNDS}
 use Rattle.ct_names.specs.declared.refusal.Refusal.{Refusal}
-use Rattle.ct_names.specs.Group.{IsMember, coordinator, everyone, is_member, members}
+use Rattle.ct_names.specs.Group.{IsMember, everyone, is_member, members}
 use Rattle.ct_names.specs.MemberSet.{has_member}
 use Rattle.ct_names.specs.Membership.{IsIn}
 use Rattle.ct_names.specs.Value.{Value}

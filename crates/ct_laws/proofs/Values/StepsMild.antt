@@ -36,7 +36,7 @@ use Rattle.ct_views.specs.Answer.{refused_line, refused_shown, shown_text}
 use Rattle.ct_views.specs.declared.form.Form.TheVariants.{Json}
 use Rattle.ct_views.specs.declared.view.View.TheVariants.{Steps}
 use Rattle.ct_json.specs.Json.{messages_at}
-use Rattle.ct_json.specs.JsonEnvelopes.{envelope_value, estimate_field, sent_fields}
+use Rattle.ct_json.specs.JsonEnvelopes.{envelope_value, sent_fields}
 use Rattle.ct_json.specs.JsonSteps.{argument_fields, batch, concluded_fields, decided_fields, delivered_fields, estimated_fields}
 use Rattle.ct_json.specs.JsonSteps.{facts_fields, head_fields, held, instance_fields, leaving_fields, left_fields, letter_facts}
 use Rattle.ct_json.specs.JsonSteps.{member_facts, message_fields, message_in, missing_fields, outcome_fields, proposal_fields}
@@ -61,7 +61,7 @@ counting_more : (first k : ℕ) → counting first (suc k) ≡ counting first k 
 counting_more first zero = ap (λ n. n ∷ []) (omega arith)
 counting_more first (suc k) =
     let same : first + 1 + k ≡ first + suc k = omega arith in
-    ap (λ ns. first ∷ ns) (counting_more (first + 1) k) ∙ ap (λ n. first ∷ (counting (first + 1) k ++ n ∷ [])) same
+    cc (counting_more (first + 1) k)
 
 -- one more of the numbers from 0 on
 counted_places : {A : Type 0} (f : ℕ → List A) (k : ℕ) → flat_map f (counting 0 (suc k)) ≡ flat_map f (counting 0 k) ++ f k
@@ -151,8 +151,7 @@ module _ (w : Rehearsal) (h : IsSized w) where
   estimated_mild : (k p : ℕ) (o : Option (Value × ℕ)) → ((x : Value × ℕ) → o ≡ Some x → x.1 ≤ MAX_ROUNDS) →
       AreMild (suc (suc k)) (estimated_fields w p o)
   unfolding estimated_fields
-  estimated_mild k p o low =
-      both_mild (suc (suc k)) (round_fields w p) (estimate_field o) (round_mild (suc (suc k)) p) (estimate_field_mild k o low)
+  estimated_mild k p o low = search (both_mild, round_mild, estimate_field_mild)
 
   decided_in : (k p : ℕ) (b : Bool) → AreMild (suc k) (if b then [] else messages_at (codes "decided") (held w p))
   unfolding messages_at
