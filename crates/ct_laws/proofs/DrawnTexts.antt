@@ -166,7 +166,11 @@ shade_reads (Some class) spot h = rect_reads class spot h
 first_shades_read : (w : Rehearsal) (g : Grid) (place k : ℕ) → IsInSvg (Shades.first_shades w g place k)
 first_shades_read w g place zero = refl
 first_shades_read w g place (suc k) =
-    simp (xml_parts, first_shades_read w g place k, shade_reads (Shades.class_of w (suc k)) (spot_of g place (suc k)) (class_of_mild w (suc k)))
+    simp (
+      xml_parts,
+      first_shades_read w g place k,
+      shade_reads (Shades.class_of w (suc k)) (spot_of g place (suc k)) (class_of_mild w (suc k)),
+    )
 
 number_reads : (number : ℕ) (top low : Spot) → IsInSvg (Shades.this_number number top low)
 unfolding Shades.this_number Shades.rule_text Shades.digits_text

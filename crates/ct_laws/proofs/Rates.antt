@@ -30,7 +30,8 @@ answered_rated : (rate : ℕ) (ds : List SeededState) (p : ℕ) (ask : Option As
     AllRated rate ds → AllRated rate (after_answer ds p ask o)
 answered_rated rate ds p None o is h = h
 answered_rated rate ds p (Some ask) None is h = h
-answered_rated rate ds p (Some ask) (Some d) is h = each_set (λ (d : SeededState). d.rate ≡ rate) ds (p - 1) (after_ask d ask) h (rated_there rate ds (p - 1) d h is)
+answered_rated rate ds p (Some ask) (Some d) is h =
+    each_set (λ (d : SeededState). d.rate ≡ rate) ds (p - 1) (after_ask d ask) h (rated_there rate ds (p - 1) d h is)
 
 -- an answer keeps the rates
 pub still_rated : (rate : ℕ) (ds : List SeededState) (p : ℕ) (ask : Option Ask) → AllRated rate ds →

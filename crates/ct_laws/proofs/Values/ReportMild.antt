@@ -152,7 +152,8 @@ module _ (w : Rehearsal) (h : IsSized w) where
 
   pub counts_mild : (k : ℕ) → AreMild k (counts_fields w)
   unfolding counts_fields
-  counts_mild k = omega (arith, h.law.within.few_steps, h.law.within.few_envelopes, h.law.within.few_batches, h.fitting.few_cells)
+  counts_mild k =
+      omega (arith, h.law.within.few_steps, h.law.within.few_envelopes, h.law.within.few_batches, h.fitting.few_cells)
 
   member_mild : (k p : ℕ) → IsMember w.setting.members p → IsMild (suc (suc (suc (suc k)))) (member_value w p)
   unfolding member_value
