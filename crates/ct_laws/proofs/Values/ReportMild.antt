@@ -104,7 +104,8 @@ AreWords values = Each (λ n. n < 2 ^ 64) values
 applied_words : (values : List ℕ) (c : Command) → AreWords values → CommandFits c → AreWords (applied values c)
 applied_words values (Set register n) h fits = let few = fits.1 in each_set (λ n. n < 2 ^ 64) values register n h (omega arith)
 applied_words values (Add register n) h fits = each_set (λ n. n < 2 ^ 64) values register _ h (omega arith)
-applied_words values (Copy from to) h fits = each_set (λ n. n < 2 ^ 64) values to _ h (each_get (λ n. n < 2 ^ 64) values from 0 h (omega arith))
+applied_words values (Copy from to) h fits =
+    each_set (λ n. n < 2 ^ 64) values to _ h (each_get (λ n. n < 2 ^ 64) values from 0 h (omega arith))
 
 all_applied_words : (values : List ℕ) (messages : List Message) → AreWords values →
     ((m : Message) → IsIn m messages → CommandFits m.command)
