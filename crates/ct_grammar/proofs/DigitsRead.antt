@@ -1,22 +1,16 @@
 -- Numbers above the limit.
-use Rattle.std.proofs.Common.{◌≡◌, ℕ, ◌+◌, ◌-◌, ◌*◌, ◌<◌, true, false, List, [], ◌∷◌, None, cond, leb, refl, arith}
-use Rattle.std.specs.Char.{is_ascii_digit}
+use Rattle.std.proofs.Common.{◌≡◌, ℕ, ◌+◌, ◌-◌, ◌*◌, ◌<◌, List, [], ◌∷◌, None, length, get_or, drop, arith}
 use Rattle.std.proofs.lemmas.Bool.Decides.{nat_tests}
+use Rattle.std.proofs.lemmas.List.{drop_more}
 use Rattle.ct_grammar.specs.Numbers.{number_behind}
 
 -- more digits make no number smaller
 too_high : (high n : ℕ) (cs : List ℕ) → high < n → number_behind high n cs ≡ None
-too_high high n [] h =
-    let above : leb n high ≡ false = grind (arith, nat_tests) in
-    rw above refl
-too_high high n (c ∷ cs) h = elim (is_ascii_digit c) as (λ b. cond b (number_behind high (n * 10 + (c - 48)) cs) None ≡ None) [
-  | true ↦ too_high high (n * 10 + (c - 48)) cs (omega arith)
-  | false ↦ refl
-]
+too_high high n [] h = grind (arith, nat_tests)
+too_high high n (c ∷ cs) h = grind (arith, too_high high (n * 10 + (c - 48)) cs (omega arith))
 
--- nor does one more
-pub next_too_high : (high n c : ℕ) (cs : List ℕ) → high < n * 10 + (c - 48) → number_behind high n (c ∷ cs) ≡ None
-next_too_high high n c cs h = elim (is_ascii_digit c) as (λ b. cond b (number_behind high (n * 10 + (c - 48)) cs) None ≡ None) [
-  | true ↦ too_high high (n * 10 + (c - 48)) cs h
-  | false ↦ refl
-]
+-- nor does the one at this place of the word
+pub next_too_high : (high n i : ℕ) (word : List ℕ) → i < length word → high < n * 10 + (get_or word i 0 - 48) →
+    number_behind high n (drop i word) ≡ None
+next_too_high high n i word l h =
+    rw (drop_more word i 0 l) (grind (arith, too_high high (n * 10 + (get_or word i 0 - 48)) (drop (i + 1) word) h))

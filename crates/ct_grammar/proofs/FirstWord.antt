@@ -49,13 +49,10 @@ skip (c ∷ cs) (suc n) h = skip cs n (λ k l. h (suc k) (omega arith)) ∙ sym 
 behind_blanks : (line : List ℕ) → all_words (drop (prefix_len is_blank line) line) ≡ all_words line
 behind_blanks line = skip line (prefix_len is_blank line) (λ k l. prefix_len_passes is_blank line k 0 l)
 
-some_bytes : (part : Word) → 0 < length part → is_nothing part ≡ false
-some_bytes [] h = absurd (omega arith)
-some_bytes (c ∷ cs) h = refl
-
 kept : (part : Word) (parts : List Word) → 0 < length part →
     filter (λ p. not (is_nothing p)) (part ∷ parts) ≡ part ∷ filter (λ p. not (is_nothing p)) parts
-kept part parts h = rw (some_bytes part h) refl
+kept [] parts h = absurd (omega arith)
+kept (c ∷ cs) parts h = refl
 
 -- what stands before the first blank is the first word
 word_first : (line : List ℕ) → 0 < position_or_len is_blank line →
@@ -84,22 +81,6 @@ some_word (c ∷ cs) e l = rw e (omega arith)
 
 -- ---- the words before the comment
 
--- the line has words, of which the first is this
-pub record BeginsWith (line word behind : List ℕ) : Type 0 where
-  pub some : 0 < length word
-  pub words : all_words line ≡ word ∷ all_words behind
-
-pub first_of : (line : List ℕ) (rest word behind : List ℕ) → rest ≡ drop (prefix_len is_blank line) line →
-    word ≡ take (position_or_len is_blank rest) rest → behind ≡ drop (position_or_len is_blank rest) rest → 0 < length word →
-    BeginsWith line word behind
-first_of line rest word behind e f g some = record {
-  some = some;
-  words =
-      let n : ℕ = position_or_len is_blank rest in
-      let front : 0 < n = omega (arith, length-take n rest, ap length f) in
-      sym (behind_blanks line) ∙ sym (ap all_words e) ∙ rw (f, g) (word_first rest front);
-}
-
 nothing_left : (rest : List ℕ) → length rest ≤ 0 → all_words rest ≡ []
 unfolding all_words
 nothing_left [] h = refl
@@ -116,19 +97,27 @@ pub none_of : (line rest word : List ℕ) → rest ≡ drop (prefix_len is_blank
 unfolding words_of
 none_of line rest word e f none = elim (cases_lt 0 (length rest)) [
   | inl some ↦
-      let n : ℕ = position_or_len is_blank rest in
-      let front : 0 < n = some_word rest (begins_no_blank line rest e some) some in
-      absurd (omega (arith, length-take n rest, ap length f))
+      let front = some_word rest (begins_no_blank line rest e some) some in
+      absurd (omega (arith, length-take (position_or_len is_blank rest) rest, ap length f))
   | inr nothing ↦
       let words : all_words line ≡ [] = sym (behind_blanks line) ∙ sym (ap all_words e) ∙ nothing_left rest nothing in
       rw words refl
 ]
 
-pub before_comment : (line word behind : List ℕ) → BeginsWith line word behind → begins_comment word ≡ true → words_of line ≡ []
-unfolding words_of
-before_comment line word behind h e = rw (h.words, take_while-cons, e) refl
+-- the line has words, of which the first is this
+module _ (line rest word behind : List ℕ) (e : rest ≡ drop (prefix_len is_blank line) line)
+    (f : word ≡ take (position_or_len is_blank rest) rest) (g : behind ≡ drop (position_or_len is_blank rest) rest)
+    (some : 0 < length word) where
+  words : all_words line ≡ word ∷ all_words behind
+  words =
+      let n : ℕ = position_or_len is_blank rest in
+      let front : 0 < n = omega (arith, length-take n rest, ap length f) in
+      sym (behind_blanks line) ∙ sym (ap all_words e) ∙ rw (f, g) (word_first rest front)
 
-pub one_more : (line word behind : List ℕ) → BeginsWith line word behind → begins_comment word ≡ false →
-    words_of line ≡ word ∷ words_of behind
-unfolding words_of
-one_more line word behind h e = rw (h.words, take_while-cons, e) refl
+  pub before_comment : begins_comment word ≡ true → words_of line ≡ []
+  unfolding words_of
+  before_comment h = rw (words, take_while-cons, h) refl
+
+  pub one_more : begins_comment word ≡ false → words_of line ≡ word ∷ words_of behind
+  unfolding words_of
+  one_more h = rw (words, take_while-cons, h) refl

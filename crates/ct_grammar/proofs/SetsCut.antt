@@ -7,13 +7,6 @@ use Rattle.ct_grammar.specs.Words.{Word}
 use Rattle.ct_grammar.specs.Sides.{with_set}
 use Rattle.ct_grammar.specs.Cuts.{with_sets}
 
-more_sets : (a b : Bor Word) (ws rest : List (Bor Word)) (sides named : List ℕ) (d : Bor Word) → rest ≡ b ∷ ws →
-    with_set sides a.now ≡ Some named → bytes_eq (get_or rest 0 d).now (codes "|") ≡ true →
-    with_sets named (map (λ w. w.now) (take (length rest - 1) (drop 1 rest))) ≡ with_sets sides (map (λ w. w.now) (a ∷ b ∷ ws))
-more_sets a b ws rest sides named d e set bar =
-    let here : bytes_eq b.now (codes "|") ≡ true = rw e at bar in
-    rw (e, take_all (length (b ∷ ws) - 1) ws (omega arith)) (sym (rw (set, here) refl))
-
 -- a set with a bar behind it
 pub one_more_set : (ws : List (Bor Word)) (sides named : List ℕ) (d : Bor Word) → 1 ≤ length ws →
     1 ≤ length (take (length ws - 1) (drop 1 ws)) → with_set sides (get_or ws 0 d).now ≡ Some named →
@@ -23,5 +16,6 @@ pub one_more_set : (ws : List (Bor Word)) (sides named : List ℕ) (d : Bor Word
 one_more_set [] sides named d h l set bar = absurd (omega arith)
 one_more_set (a ∷ []) sides named d h l set bar = absurd (omega arith)
 one_more_set (a ∷ b ∷ ws) sides named d h l set bar =
-    more_sets a b ws (take (length (a ∷ b ∷ ws) - 1) (b ∷ ws)) sides named d
-    (take_all (length (a ∷ b ∷ ws) - 1) (b ∷ ws) (omega arith)) set bar
+    let same = take_all (length (a ∷ b ∷ ws) - 1) (b ∷ ws) (omega arith) in
+    let here : bytes_eq b.now (codes "|") ≡ true = rw same at bar in
+    rw (same, take_all (length (b ∷ ws) - 1) ws (omega arith)) (sym (rw (set, here) refl))

@@ -1,4 +1,4 @@
-use Rattle.std.proofs.Common.{◌≡◌, length, sym, ◌∙◌, arith}
+use Rattle.std.proofs.Common.{sym, ◌∙◌, arith}
 use Rattle.std.proofs.lemmas.List.Sums.{prefix_len_is}
 use Rattle.ct_grammar.specs.Words.{is_blank}
 use Rattle.ct_grammar.proofs.words.blanks.Goals as goal
@@ -9,6 +9,4 @@ returns-then-not-is_blank c = sym (prefix_len_is is_blank c.args.text.now c.loop
 
 pub returns : goal.returns
 returns c =
-    let all : c.loop-i.i ≡ length c.args.text.now = omega arith in
-    sym (prefix_len_is is_blank c.args.text.now (length c.args.text.now) 0 (omega arith) (rw (← all) c.loop-i.invariant)
-    (λ l. absurd (omega arith)))
+    omega (arith, prefix_len_is is_blank c.args.text.now c.loop-i.i 0 (omega arith) c.loop-i.invariant (λ l. absurd (omega arith)))

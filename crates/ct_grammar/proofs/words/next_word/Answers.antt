@@ -1,9 +1,9 @@
-use Rattle.std.proofs.Common.{◌≡◌, ◌<◌, ℕ, false, true, take, drop, subst, arith}
+use Rattle.std.proofs.Common.{◌≡◌, ◌<◌, ℕ, subst, arith}
 use Rattle.std.specs.Str.{IsCharBoundary}
 use Rattle.std.specs.List.{prefix_len, position_or_len}
 use Rattle.std.proofs.lemmas.Bool.Decides.{nat_tests}
-use Rattle.ct_grammar.specs.Words.{is_blank, begins_comment}
-use Rattle.ct_grammar.proofs.FirstWord.{cut_behind_blanks, cut_before_blank, BeginsWith, first_of, none_of, before_comment, one_more}
+use Rattle.ct_grammar.specs.Words.{is_blank}
+use Rattle.ct_grammar.proofs.FirstWord.{cut_behind_blanks, cut_before_blank, none_of, before_comment, one_more}
 use Rattle.ct_grammar.proofs.words.next_word.Goals as goal
 
 pub range_from-rest-requires : goal.range_from-rest-requires
@@ -19,28 +19,14 @@ split_at-requires c =
 
 pub returns-then-is_empty-clause-words : goal.returns-then-is_empty-clause-words
 returns-then-is_empty-clause-words c =
-    let rest : c.range_from-rest.result.now ≡ drop (prefix_len is_blank c.args.line.now) c.args.line.now = cc in
-    let word : c.split_at.result.0.now ≡ take (position_or_len is_blank c.range_from-rest.result.now) c.range_from-rest.result.now = cc in
-    none_of c.args.line.now c.range_from-rest.result.now c.split_at.result.0.now rest word (grind (arith, nat_tests))
+    none_of c.args.line.now c.range_from-rest.result.now c.split_at.result.0.now (cc) (cc) (grind (arith, nat_tests))
 
 pub returns-then-begins_comment-clause-words : goal.returns-then-begins_comment-clause-words
 returns-then-begins_comment-clause-words c =
-    let rest : c.range_from-rest.result.now ≡ drop (prefix_len is_blank c.args.line.now) c.args.line.now = cc in
-    let word : c.split_at.result.0.now ≡ take (position_or_len is_blank c.range_from-rest.result.now) c.range_from-rest.result.now = cc in
-    let behind : c.split_at.result.1.now ≡ drop (position_or_len is_blank c.range_from-rest.result.now) c.range_from-rest.result.now = cc in
-    let first : BeginsWith c.args.line.now c.split_at.result.0.now c.split_at.result.1.now =
-    first_of c.args.line.now c.range_from-rest.result.now c.split_at.result.0.now c.split_at.result.1.now rest word behind
-    (grind (arith, nat_tests)) in
-    let comment : begins_comment c.split_at.result.0.now ≡ true = cc in
-    before_comment _ _ _ first comment
+    before_comment c.args.line.now c.range_from-rest.result.now c.split_at.result.0.now c.split_at.result.1.now (cc) (cc) (cc)
+    (grind (arith, nat_tests)) (cc)
 
 pub returns-clause-words : goal.returns-clause-words
 returns-clause-words c =
-    let rest : c.range_from-rest.result.now ≡ drop (prefix_len is_blank c.args.line.now) c.args.line.now = cc in
-    let word : c.split_at.result.0.now ≡ take (position_or_len is_blank c.range_from-rest.result.now) c.range_from-rest.result.now = cc in
-    let behind : c.split_at.result.1.now ≡ drop (position_or_len is_blank c.range_from-rest.result.now) c.range_from-rest.result.now = cc in
-    let first : BeginsWith c.args.line.now c.split_at.result.0.now c.split_at.result.1.now =
-    first_of c.args.line.now c.range_from-rest.result.now c.split_at.result.0.now c.split_at.result.1.now rest word behind
-    (grind (arith, nat_tests)) in
-    let no_comment : begins_comment c.split_at.result.0.now ≡ false = cc in
-    one_more _ _ _ first no_comment
+    one_more c.args.line.now c.range_from-rest.result.now c.split_at.result.0.now c.split_at.result.1.now (cc) (cc) (cc)
+    (grind (arith, nat_tests)) (cc)
