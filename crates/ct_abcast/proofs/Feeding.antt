@@ -1,5 +1,5 @@
 -- What is pending, in order.
-use Rattle.std.proofs.Common.{◌≡◌, ℕ, ◌+◌, ◌<◌, ◌≤◌, Bool, true, false, cond, not, ◌&&◌, ◌||◌, List, [], ◌∷◌, ◌++◌, length, get_or, take}
+use Rattle.std.proofs.Common.{◌≡◌, ℕ, ◌+◌, ◌<◌, ◌≤◌, Bool, true, false, cond, not, ◌&&◌, List, [], ◌∷◌, ◌++◌, length, get_or, take}
 use Rattle.std.proofs.Common.{map, sym, ap, ◌∙◌, subst, arith, length-append}
 use Rattle.std.specs.BTreeMap.{is_at}
 use Rattle.std.specs.List.{list_any}
@@ -17,26 +17,19 @@ use Rattle.ct_names.proofs.Values.{length-ordered}
 use Rattle.ct_names.proofs.Sets.{set-rising, set-take, same_ordered, has-ordered}
 use Rattle.ct_abcast.specs.Batches.{joined, batch_after}
 use Rattle.ct_abcast.specs.Ordered.{Fed, IsFed}
-use Rattle.ct_abcast.specs.Pending.{IsPending}
-use Rattle.ct_abcast.proofs.Fresh.{is_message-sym}
-use Rattle.ct_abcast.proofs.Pending.{pending-more, pending-same, pending-left, pending-set}
+use Rattle.ct_abcast.proofs.Pending.{updated, pending-more, pending-same, pending-left, pending-set}
 
 -- the keys of the tree are messages
 
 at-is : (m other : Message) → is_at (ghosts.cmp m) other ≡ is_message m other
 at-is m other = ap is_eq (same_cmp m other) ∙ sym (message-order m other)
 
-tree-has : (list : List Message) (m : Message) → list_any (is_at (ghosts.cmp m)) list ≡ has list m
-tree-has list m =
-    let same : is_at (ghosts.cmp m) ≡ (λ other. is_message other m) = λ i. λ other. (at-is m other ∙ is_message-sym m other) i in
-    ap (λ test. list_any test list) same
-
 -- the keys of the tree after one of them was put in or taken out
 pub tree-updated : (old new : List Message) (message : Message) (b : Bool) →
     ((q : Message) → list_any (is_at (ghosts.cmp q)) new
     ≡ cond (is_at (ghosts.cmp message) q) b (list_any (is_at (ghosts.cmp q)) old)) → (m : Message) →
     has new m ≡ cond (is_message message m) b (has old m)
-tree-updated old new message b h m = sym (tree-has new m) ∙ (h m ∙ (λ i. cond (at-is message m i) b (tree-has old m i)))
+tree-updated = updated (λ m. is_at (ghosts.cmp m)) at-is
 
 -- the keys of the tree are a set
 pub tree-set : (keys : List Message) → IsStrictlySortedBy ghosts.cmp keys → IsOrdered keys
@@ -48,16 +41,9 @@ tree-set keys h =
 pub set-more : {A : Type 0} (message : A → Message) (set : List Message) (before : List A) (x : A) → set ≡ ordered (map message before) →
     ordered (set ++ message x ∷ []) ≡ ordered (map message (before ++ x ∷ []))
 set-more message set before x is =
-    ap (λ list. ordered (list ++ message x ∷ [])) is
-    ∙ (same_ordered (ordered list ++ message x ∷ []) (list ++ message x ∷ []) same ∙ ap ordered (sym (map_push message before x)))
-  where
-    list : List Message
-    list = map message before
-
-    same : (m : Message) → has (ordered list ++ message x ∷ []) m ≡ has (list ++ message x ∷ []) m
-    same m =
-        has-push (ordered list) (message x) m
-        ∙ (ap (λ b. b || is_message (message x) m) (has-ordered list m) ∙ sym (has-push list (message x) m))
+    let list = map message before in
+    same_ordered (set ++ message x ∷ []) (map message (before ++ x ∷ [])) (λ m.
+    grind (arith, has-push set (message x) m, has-ordered list m, map_push message before x, has-push list (message x) m))
 
 pub set-first : (set some keys : List Message) (bound : ℕ) → IsOrdered keys → set ≡ ordered some → some ≡ take bound keys →
     set ≡ take bound (ordered keys)
@@ -69,54 +55,42 @@ take-few list bound few = take_all bound (ordered list) (omega (arith, length-or
 
 -- what was fed is right when nothing was fed
 pub fed-none : (f : Fed) (received delivered : List Message) → f.fed ≡ 0 → f.messages ≡ [] → IsFed f received delivered
-fed-none f received delivered none empty = record {
-  within = omega arith;
-  pending = λ m. ap (λ list. has list m) empty ∙ ap (λ n. has (take n received) m && not (has delivered m)) (sym none);
-}
+fed-none f received delivered none empty = grind arith
 
 -- one more of the received messages is fed
 module _ (f next : Fed) (received delivered : List Message) (message : Message) (h : IsFed f received delivered)
     (low : f.fed < length received) (is : message ≡ get_or received f.fed message) (moved : next.fed ≡ f.fed + 1) where
-  taken : take next.fed received ≡ take f.fed received ++ message ∷ []
+  abbrev before : List Message
+  before = take f.fed received
+
+  taken : take next.fed received ≡ before ++ message ∷ []
   taken = grind (arith, take_more received f.fed message low)
 
   pub fed-more : false ≡ has delivered message →
       ((m : Message) → has next.messages m ≡ cond (is_message message m) true (has f.messages m)) → IsFed next received delivered
-  fed-more away updated = record {
-    within = omega arith;
-    pending = pending-more f.messages (take f.fed received) (take next.fed received) message delivered h.pending taken next.messages away
-        updated;
-  }
+  fed-more away updated =
+      let all = pending-more f.messages before (take next.fed received) message delivered h.pending taken next.messages away updated in
+      grind (arith, h.within, all)
 
   pub fed-same : true ≡ has delivered message → next.messages ≡ f.messages → IsFed next received delivered
-  fed-same there same = record {
-    within = omega arith;
-    pending = subst (λ list. IsPending list (take next.fed received) delivered) (sym same)
-        (pending-same f.messages (take f.fed received) (take next.fed received) message delivered h.pending taken there);
-  }
+  fed-same there same =
+      grind (arith, h.within, pending-same f.messages before (take next.fed received) message delivered h.pending taken there)
 
 -- one more message is received, and isn't fed yet
 pub fed-kept : (f : Fed) (received new : List Message) (message : Message) (delivered : List Message) → IsFed f received delivered →
     new ≡ received ++ message ∷ [] → IsFed f new delivered
-fed-kept f received new message delivered h is = record {
-  within = let len = ap length is in let sum = length-append received (message ∷ []) in let low = h.within in omega arith;
-  pending = subst (λ list. IsPending f.messages list delivered)
-      (sym (ap (take f.fed) is ∙ take-append-le f.fed received (message ∷ []) h.within)) h.pending;
-}
+fed-kept f received new message delivered h is =
+    grind (arith, h.within, h.pending, length-append received (message ∷ []), take-append-le f.fed received (message ∷ []) h.within)
 
 -- one more batch is delivered
 pub fed-left : (f next : Fed) (received : List Message) (old new : List (List Message)) (v : List Message) → IsFed f received (joined old) →
     new ≡ old ++ batch_after old v ∷ [] → ((m : Message) → has next.messages m ≡ (has f.messages m && not (has v m))) → next.fed ≡ f.fed →
     IsFed next received (joined new)
-fed-left f next received old new v h is left same = record {
-  within = let low = h.within in omega arith;
-  pending = subst (λ n. IsPending next.messages (take n received) (joined new)) (sym same)
-      (pending-left f.messages next.messages (take f.fed received) old new v h.pending is left);
-}
+fed-left f next received old new v h is left same =
+    grind (arith, h.within, pending-left f.messages next.messages (take f.fed received) old new v h.pending is left)
 
 -- the set of what is pending, once all is fed
 pub fed-set : (f : Fed) (received delivered : List Message) → IsFed f received delivered → f.fed ≡ length received →
     ordered f.messages ≡ ordered (minus received delivered)
 fed-set f received delivered h all =
-    pending-set f.messages received delivered
-    (subst (λ list. IsPending f.messages list delivered) (take_all f.fed received (omega arith)) h.pending)
+    pending-set f.messages received delivered (rw (take_all f.fed received (omega arith)) at h.pending)

@@ -1,8 +1,7 @@
 -- The messages of a set that a list doesn't have join the list in turn.
-use Rattle.std.proofs.Common.{◌≡◌, ℕ, zero, suc, ◌+◌, ◌<◌, Bool, true, false, cond, not, List, [], ◌∷◌, ◌++◌, length, get_or, take}
-use Rattle.std.proofs.Common.{nat_lt, refl, sym, ap, ◌∙◌, inl, inr, arith, append_assoc, ◌==◌}
+use Rattle.std.proofs.Common.{◌≡◌, ℕ, zero, suc, ◌+◌, ◌<◌, Bool, false, List, [], ◌∷◌, ◌++◌, length, get_or, take}
+use Rattle.std.proofs.Common.{nat_lt, refl, ap, inl, inr, arith, append_assoc}
 use Rattle.std.specs.List.{list_any}
-use Rattle.std.proofs.Math.Bool.{or-false}
 use Rattle.std.proofs.lemmas.Bool.{false_from_ne_true}
 use Rattle.std.proofs.lemmas.Bool.Decides.{nat_tests}
 use Rattle.std.proofs.lemmas.List.{append-nil}
@@ -21,11 +20,15 @@ use Rattle.ct_names.proofs.Values.{same_message, is_message-refl, in-has, minus-
 pub is_message-sym : (a b : Message) → is_message a b ≡ is_message b a
 is_message-sym a b = grind (arith, same_message a b, same_message b a, is_message-refl a)
 
+-- by a test that tells the message, something of the list is it where the list has the message
+pub any-has : (test : Message → Bool) (list : List Message) (m : Message) → ((other : Message) → test other ≡ is_message m other) →
+    list_any test list ≡ has list m
+any-has test [] m same = refl
+any-has test (x ∷ list) m same = grind (arith, same x, is_message-sym m x, any-has test list m same)
+
 -- the set of keys has what the list has
 pub keys-has : (list : List Message) (m : Message) → list_any (equal.eq m) list ≡ has list m
-keys-has list m =
-    let same : equal.eq m ≡ (λ other. is_message other m) = λ i. λ other. (same_eq m other ∙ is_message-sym m other) i in
-    ap (λ test. list_any test list) same
+keys-has list m = any-has (equal.eq m) list m (same_eq m)
 
 in-at : (items : List Message) (i : ℕ) (m : Message) → i < length items → m ≡ get_or items i m → IsIn m items
 in-at [] i m low is = absurd (omega arith)
@@ -48,22 +51,16 @@ absent list m out = false_from_ne_true (has list m) (λ h. out (in-has list m h)
 pub insert-more : (list items : List Message) (i : ℕ) (m : Message) → IsWithoutRepeats items → i < length items → m ≡ get_or items i m →
     insert_key equal.eq (list ++ minus (take i items) list) m ≡ list ++ minus (take (i + 1) items) list
 insert-more list items i m once low is =
-    ap (λ b. cond b (list ++ kept) ((list ++ kept) ++ m ∷ [])) there
-    ∙ (at (has list m)
-    ∙ ap (λ zs. list ++ zs) (sym (minus-more items list i m (has list m) low is refl)))
-  where
-    kept : List Message
-    kept = minus (take i items) list
-
-    there : list_any (equal.eq m) (list ++ kept) ≡ has list m
-    there =
-        keys-has (list ++ kept) m
-        ∙ (list_any-append (λ other. is_message other m) list kept
-        ∙ rw (absent kept m (λ h. fresh items i m once low is (minus-from (take i items) list m h))) (or-false (has list m)))
-
-    at : (b : Bool) → cond b (list ++ kept) ((list ++ kept) ++ m ∷ []) ≡ list ++ (kept ++ cond b [] (m ∷ []))
-    at true = ap (λ zs. list ++ zs) (sym (append-nil kept))
-    at false = append_assoc list kept (m ∷ [])
+    let kept = minus (take i items) list in
+    grind (
+      arith,
+      minus-more items list i m (has list m) low is refl,
+      keys-has (list ++ kept) m,
+      list_any-append (λ other. is_message other m) list kept,
+      absent kept m (λ h. fresh items i m once low is (minus-from (take i items) list m h)),
+      append-nil kept,
+      append_assoc list kept (m ∷ []),
+    )
 
 -- the set of a list has a message where the list has
 pub some-ordered : (list : List Message) → nat_lt 0 (length (ordered list)) ≡ nat_lt 0 (length list)
@@ -73,6 +70,3 @@ some-ordered (m ∷ list) = at (ordered (m ∷ list)) (ordered-in (m ∷ list) m
     at : (zs : List Message) → IsIn m zs → nat_lt 0 (length zs) ≡ nat_lt 0 (suc (length list))
     at [] h = absurd h
     at (z ∷ zs) h = grind (arith, nat_tests)
-
-pub some-length : (n : ℕ) → not (n == 0) ≡ nat_lt 0 n
-some-length n = grind (arith, nat_tests)

@@ -1,6 +1,6 @@
 -- Batches in one list, each told by where it ends.
 use Rattle.std.proofs.Common.{◌≡◌, ℕ, zero, suc, ◌-◌, ◌≤◌, ◌<◌, List, [], ◌∷◌, ◌++◌, length, get_or, take, drop, slice_get, Some, None}
-use Rattle.std.proofs.Common.{refl, sym, ap, ◌∙◌, subst, arith, length-append, length-drop, Option, inl, inr}
+use Rattle.std.proofs.Common.{refl, sym, ap, ◌∙◌, arith, length-append, length-drop, Option, inl, inr}
 use Rattle.std.specs.Prelude.{slice_range}
 use Rattle.std.proofs.lemmas.Grind.{get_or_default_zero}
 use Rattle.std.proofs.lemmas.List.{drop_all, drop-append-le, take-append-le, take_all}
@@ -16,6 +16,7 @@ use Rattle.ct_names.proofs.Sets.{set-minus}
 use Rattle.ct_abcast.specs.Batches.{joined, batch_after}
 use Rattle.ct_abcast.specs.Ends.{parts, AreEnds}
 
+-- as many parts as ends
 pub length-parts : (start : ℕ) (ends : List ℕ) (list : List Message) → length (parts start ends list) ≡ length ends
 length-parts start [] list = refl
 length-parts start (end ∷ ends) list = ap suc (length-parts end ends list)
@@ -50,16 +51,9 @@ parts-from start (end ∷ ends) list more h =
     let rest = parts-from end ends list more h.1 in
     cc
 
-pub parts-push : (ends : List ℕ) (list more : List Message) → AreEnds 0 ends (length list) →
-    parts 0 (ends ++ length (list ++ more) ∷ []) (list ++ more) ≡ parts 0 ends list ++ more ∷ []
-parts-push ends list more h = parts-from 0 ends list more h
-
 ends-from : (start : ℕ) (ends : List ℕ) (last next : ℕ) → AreEnds start ends last → last ≤ next → AreEnds start (ends ++ next ∷ []) next
 ends-from start [] last next h low = (omega (arith, h, low), refl)
 ends-from start (end ∷ ends) last next h low = (h.0, ends-from end ends last next h.1 low)
-
-pub ends-push : (ends : List ℕ) (last next : ℕ) → AreEnds 0 ends last → last ≤ next → AreEnds 0 (ends ++ next ∷ []) next
-ends-push ends last next h low = ends-from 0 ends last next h low
 
 -- a part stands from the end of the part before
 record IsPart (start : ℕ) (ends : List ℕ) (list : List Message) (k from : ℕ) : Type 0 where
@@ -72,8 +66,7 @@ part-from : (start : ℕ) (ends : List ℕ) (list : List Message) (k : ℕ) → 
 part-from start [] list k h low = absurd (omega arith)
 part-from start (end ∷ ends) list zero h low = record { rising = h.0; within = ends-low end ends (length list) h.1; part = refl }
 part-from start (end ∷ ends) list (suc k) h low =
-    let p = part-from end ends list k h.1 (omega arith) in
-    record { rising = p.rising; within = p.within; part = p.part }
+    grind (arith, part-from end ends list k h.1 (omega arith))
 
 -- a part but the first starts where the part before ends
 pub start-before : (ends : List ℕ) (k start : ℕ) → 0 < k → k < length ends → start ≡ get_or ends (k - 1) start →
@@ -92,8 +85,6 @@ pub part-at : (ends : List ℕ) (list all : List Message) (k from to : ℕ) (r :
     option_map (λ part. part.now) r ≡ slice_get (parts 0 ends list) k
 part-at ends list all k from to r h low all_is from_is to_is got =
     let p = part-from 0 ends list k h low in
-    let rising = p.rising in
-    let within = p.within in
     let len : length all ≡ length list = ap length all_is in
     part-got all from to r (omega arith) (omega arith) got
     ∙ (ap Some (λ i. slice_range (all_is i) (from_is i) (to_is i)) ∙ sym p.part)
@@ -107,15 +98,16 @@ part-past ends list k past =
 pub delivered-ends : (ends next : List ℕ) (list all more : List Message) → AreEnds 0 ends (length list) → all ≡ list ++ more →
     next ≡ ends ++ length all ∷ [] → AreEnds 0 next (length all)
 delivered-ends ends next list all more h all_is next_is =
-    let sum = length-append list more in
-    let len : length all ≡ length (list ++ more) = ap length all_is in
-    subst (λ z. AreEnds 0 z (length all)) (sym next_is) (ends-push ends (length list) (length all) h (omega arith))
+    rw next_is (ends-from 0 ends (length list) (length all) h (omega (arith, length-append list more, ap length all_is)))
 
 pub delivered-parts : (ends next : List ℕ) (list all more : List Message) → AreEnds 0 ends (length list) → all ≡ list ++ more →
     next ≡ ends ++ length all ∷ [] → parts 0 next all ≡ parts 0 ends list ++ more ∷ []
-delivered-parts ends next list all more h all_is next_is = grind (arith, parts-push ends list more h)
+delivered-parts ends next list all more h all_is next_is = grind (arith, parts-from 0 ends list more h)
 
 -- what is new of the set is the batch
 pub batch-is : (ends : List ℕ) (list : List Message) (v : Value) → AreEnds 0 ends (length list) → IsOrdered v →
     minus v list ≡ batch_after (parts 0 ends list) v
 batch-is ends list v h set = grind (arith, set-minus v list set, joined-parts ends list h)
+
+-- what lists and batches tell of the parts
+pub ruleset in_parts = (length-parts, joined-parts)

@@ -56,6 +56,7 @@ impl Delivered {
     }
 
     // The messages of all batches.
+    #[tactic(auto, using(crate::proofs::Parts::in_parts))]
     pub(crate) fn messages(&self) -> &[Message]
         ensures { result.now ≡ joined self.now.batches }
     {
@@ -73,6 +74,7 @@ impl Delivered {
     }
 
     // How many batches there are.
+    #[tactic(auto, using(crate::proofs::Parts::in_parts))]
     pub(crate) fn len(&self) -> usize
         ensures { result ≡ length self.now.batches }
     {

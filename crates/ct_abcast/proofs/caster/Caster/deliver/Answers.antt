@@ -1,4 +1,4 @@
-use Rattle.std.proofs.Common.{◌≡◌, ◌∙◌, not, ◌&&◌, ap}
+use Rattle.std.proofs.Common.{◌≡◌, not, ◌&&◌, arith}
 use Rattle.ct_names.specs.Message.{Message}
 use Rattle.ct_names.specs.Value.{has}
 use Rattle.ct_abcast.proofs.Feeding.{fed-left}
@@ -14,9 +14,9 @@ invariant_of-self c =
     let pending = c.self.inside.pending.keys in
     let fed = c.self.inside.ordered in
     let left : (m : Message) → has c.take_out.new.pending.keys m ≡ (has pending m && not (has v m)) =
-    λ m. c.take_out.ensures.left m ∙ ap (λ list. has pending m && not (has list m)) c.items.ensures.value in
+    λ m. grind (arith, c.take_out.ensures.left m) in
     let left_in_order : (m : Message) → has c.take_out-2.new.self.messages m ≡ (has fed.messages m && not (has v m)) =
-    λ m. c.take_out-2.ensures.left m ∙ ap (λ list. has fed.messages m && not (has list m)) c.items-2.ensures.value in (
+    λ m. grind (arith, c.take_out-2.ensures.left m) in (
       pending-left pending c.take_out.new.pending.keys received old new v c.self.invariant.0 c.deliver.ensures.batches left,
       fed-left fed c.take_out-2.new.self received old new v c.self.invariant.1 c.deliver.ensures.batches left_in_order
           c.take_out-2.ensures.fed,

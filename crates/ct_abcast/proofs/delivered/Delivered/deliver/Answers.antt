@@ -1,12 +1,10 @@
-use Rattle.std.proofs.Common.{◌≡◌, ◌∙◌, ◌++◌, ◌∷◌, [], length, sym, ap, subst, arith, rules}
+use Rattle.std.proofs.Common.{◌≡◌, ◌∙◌, ◌++◌, ◌∷◌, [], length, sym, subst, arith, rules}
 use Rattle.std.proofs.lemmas.List.{take_all}
 use Rattle.indexmap.specs.IndexSet.{insert_key}
 use Rattle.ct_names.specs.contracts.message.MessagePartialEq.TheImpl.{ghosts as equal}
 use Rattle.ct_names.specs.Membership.{IsWithoutRepeats}
 use Rattle.ct_names.specs.Value.{minus}
 use Rattle.ct_names.proofs.Values.{IsWithoutRepeats-ordered}
-use Rattle.ct_abcast.specs.Batches.{batch_after}
-use Rattle.ct_abcast.specs.Ends.{parts}
 use Rattle.ct_abcast.proofs.Fresh.{insert-more}
 use Rattle.ct_abcast.proofs.Within.{within-insert}
 use Rattle.ct_abcast.proofs.Parts.{delivered-ends, delivered-parts, batch-is}
@@ -20,10 +18,13 @@ loop-message-preserved c =
     let inserted : c.insert.new.self.keys ≡ insert_key equal.eq c.loop-message.self-inside.messages.keys c.message-item.result =
     search rules in
     record {
-      keys = inserted
-          ∙ (ap (λ keys. insert_key equal.eq keys c.message-item.result) c.loop-message.invariant.keys
-          ∙ insert-more c.self.inside.messages.keys items c.loop-message.message-index c.message-item.result once c.loop-message-test.true
-          c.message-item.is);
+      keys = grind (
+        arith,
+        inserted,
+        c.loop-message.invariant.keys,
+        insert-more c.self.inside.messages.keys items
+            c.loop-message.message-index c.message-item.result once c.loop-message-test.true c.message-item.is,
+      );
       ends = c.loop-message.invariant.ends;
       within = within-insert _ c.see.new.self c.loop-message.self-inside.messages.keys c.insert.new.self.keys c.message-item.result
           c.loop-message.invariant.within c.see.ensures.here c.see.ensures.grown inserted;
@@ -33,11 +34,11 @@ loop-message-preserved c =
 -- all that was delivered, after the loop
 all_is : (c : goal.After-unwrap-2) → c.loop-message.self-inside.messages.keys ≡ c.self.inside.messages.keys
     ++ minus c.args.set.now c.self.inside.messages.keys
-all_is c =
-    c.loop-message.invariant.keys
-    ∙ ap (λ list. c.self.inside.messages.keys ++ minus list c.self.inside.messages.keys)
-    (take_all c.loop-message.message-index c.items-message-items.result.now c.loop-message-test.false
-    ∙ c.items-message-items.ensures.value)
+all_is c = grind (
+  arith,
+  c.loop-message.invariant.keys,
+  take_all c.loop-message.message-index c.items-message-items.result.now c.loop-message-test.false,
+)
 
 ends_are : (c : goal.After-unwrap-2) → c.push.new.self.items ≡ c.self.inside.ends.items ++ length c.loop-message.self-inside.messages.keys
     ∷ []
@@ -54,9 +55,10 @@ invariant_of-self c = record {
 pub returns-clause-batches : goal.returns-clause-batches
 returns-clause-batches c =
     let more = minus c.args.set.now c.self.inside.messages.keys in
-    delivered-parts c.self.inside.ends.items c.push.new.self.items c.self.inside.messages.keys c.loop-message.self-inside.messages.keys more
-    c.self.invariant.ends_there (all_is c) (ends_are c)
-    ∙ (ap (λ batch. parts 0 c.self.inside.ends.items c.self.inside.messages.keys ++ batch ∷ [])
-    (batch-is c.self.inside.ends.items c.self.inside.messages.keys c.args.set.now c.self.invariant.ends_there
-    c.items-message-items.ensures.ordered)
-    ∙ ap (λ v. v.batches ++ batch_after v.batches c.args.set.now ∷ []) c.self.view_is)
+    grind (
+      arith,
+      delivered-parts c.self.inside.ends.items c.push.new.self.items c.self.inside.messages.keys
+          c.loop-message.self-inside.messages.keys more c.self.invariant.ends_there (all_is c) (ends_are c),
+      batch-is c.self.inside.ends.items c.self.inside.messages.keys c.args.set.now c.self.invariant.ends_there
+          c.items-message-items.ensures.ordered,
+    )
