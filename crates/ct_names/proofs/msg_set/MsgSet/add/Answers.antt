@@ -1,5 +1,4 @@
-use Rattle.std.proofs.Common.{◌≡◌, ◌++◌, ◌∷◌, [], ◌∙◌, subst, sym, ap, Ok, Err}
-use Rattle.std.specs.List.{insert}
+use Rattle.std.proofs.Common.{◌≡◌, ◌++◌, ◌∷◌, [], subst, sym, arith, Ok, Err}
 use Rattle.ct_names.specs.contracts.message.MessageOrd.TheImpl.{ghosts}
 use Rattle.ct_names.specs.Value.{ordered, IsOrdered}
 use Rattle.ct_names.proofs.Orders.{same_cmp}
@@ -13,21 +12,17 @@ after_insert c =
     let set : IsOrdered c.deref.result.now = subst IsOrdered (sym c.deref.ensures.value) c.self.invariant in
     let place = found c.deref.result.now c.args.message (λ y. ghosts.cmp y c.args.message) (λ y. same_cmp y c.args.message) set
     (Err c.in-Err.place) c.in-Err.ensures.bound c.in-Err.ensures.position in
-    c.in_ok-insert.ensures.items
-    ∙ (ap (λ list. insert list c.in-Err.place c.args.message) (sym c.deref.ensures.value)
-    ∙ (set-insert c.deref.result.now c.args.message c.in-Err.place set place
-    ∙ ap (λ list. ordered (list ++ c.args.message ∷ [])) c.deref.ensures.value))
+    grind (arith, set-insert c.deref.result.now c.args.message c.in-Err.place set place)
 
 pub invariant_of-self : goal.invariant_of-self
-invariant_of-self c = subst IsOrdered (sym (after_insert c)) (set-ordered (c.self.inside.items.items ++ c.args.message ∷ []))
+invariant_of-self c = grind (arith, after_insert c, set-ordered (c.self.inside.items.items ++ c.args.message ∷ []))
 
 pub returns-in_ok-insert-clause-ok : goal.returns-in_ok-insert-clause-ok
-returns-in_ok-insert-clause-ok c = after_insert c ∙ ap (λ list. ordered (list ++ c.args.message ∷ [])) c.self.view_is
+returns-in_ok-insert-clause-ok c = grind (arith, after_insert c)
 
 pub returns-in_default-clause-ok : goal.returns-in_default-clause-ok
 returns-in_default-clause-ok c =
-    let list_is = c.deref.ensures.value ∙ c.self.view_is in
     let set : IsOrdered c.deref.result.now = subst IsOrdered (sym c.deref.ensures.value) c.self.invariant in
     let there = found c.deref.result.now c.args.message (λ y. ghosts.cmp y c.args.message) (λ y. same_cmp y c.args.message) set
     (Ok c.in_default.field-0) c.in_default.ensures.bound c.in_default.ensures.position in
-    subst (λ list. list ≡ ordered (list ++ c.args.message ∷ [])) list_is (set-present c.deref.result.now c.args.message set there)
+    grind (arith, set-present c.deref.result.now c.args.message set there)
