@@ -6,6 +6,7 @@ pub mod Start
 pub mod Stamps
 pub mod Lines
 pub mod Envelopes
+pub mod Allows
 pub mod Taken
 pub mod Addressees
 pub mod Senders

@@ -1,18 +1,19 @@
 -- What is true of every record that a world keeps.
 use Rattle.std.specs.Prelude.{◌≡◌, ℕ, ◌-◌, ◌<◌, ◌≤◌, Bool, true, false, not, ◌&&◌, List, [], ◌∷◌, length, slice_get}
-use Rattle.std.specs.Prelude.{is_some, Some}
+use Rattle.std.specs.Prelude.{is_some, None, Some}
 use Rattle.ct_names.specs.declared.limit.TheConstants.{MAX_ENVELOPES, MAX_INSTANCES, MAX_ROUNDS, MAX_STEPS, MAX_SUBMISSIONS}
 use Rattle.ct_names.specs.Group.{is_member}
 use Rattle.ct_model.specs.declared.step.Step.{Step}
 use Rattle.ct_model.specs.AtValue.{Envelope}
+use Rattle.ct_model.specs.Setting.{Setting}
 use Rattle.ct_model.specs.State.{State, member, is_crashed, submissions}
 use Rattle.ct_model.specs.Next.{wire_to}
 use Rattle.ct_model.specs.Run.{run}
 use Rattle.ct_model.specs.Waiting.{has_serial, serials_to, LineChange, line_change}
 use Rattle.ct_model.specs.Waiting.LineChange.{Takes, Defers, Restores, Leaves}
-use Rattle.ct_model.specs.Rehearsal.{Rehearsal, state_of, line_of}
+use Rattle.ct_model.specs.Rehearsal.{Rehearsal, first_steps, state_of, line_of}
 use Rattle.ct_model.specs.Stamps.{is_gone, stamp, IsRising}
-use Rattle.ct_model.specs.Cause.{round_of, order}
+use Rattle.ct_model.specs.Cause.{cause, round_of, order}
 
 -- no number stands twice
 abbrev pub is_distinct : List ℕ → Bool
@@ -28,8 +29,18 @@ pub record IsWithin (cells : ℕ) (g : State) (steps : ℕ) : Type 0 where
   pub few_batches : length (order g) ≤ cells
   pub few_steps : steps ≤ MAX_STEPS
 
--- the record is a run that ends in its state, within the limits; and what holds of its waiting lines: no serial is gone
--- before it is sent; what waits are the serials that were sent to the member and aren't gone, each once, by rising stamp
+-- each of so many first steps had no cause to be refused after those before it
+abbrev pub AllowsFirst : Setting → ℕ → List Step → ℕ → Type 0
+AllowsFirst s cells steps count = (k : ℕ) (step : Step) → k < count → slice_get steps k ≡ Some step →
+    cause (first_steps s cells steps k) step ≡ None
+
+-- each step of the record was allowed where it stands
+abbrev pub EachWasAllowed : Rehearsal → Type 0
+EachWasAllowed w = AllowsFirst w.setting w.cells w.steps (length w.steps)
+
+-- the record is a run that ends in its state, within the limits, each step of which was allowed where it stands; and what
+-- holds of its waiting lines: no serial is gone before it is sent; what waits are the serials that were sent to the member
+-- and aren't gone, each once, by rising stamp
 pub record IsLawful (w : Rehearsal) : Type 0 where
   pub runs : run w.setting w.steps ≡ Some (state_of w)
   pub size : length (state_of w).members ≡ w.setting.members
@@ -38,6 +49,7 @@ pub record IsLawful (w : Rehearsal) : Type 0 where
   pub waits : (p k : ℕ) → has_serial k (line_of w p) ≡ (has_serial k (serials_to p 0 (state_of w).sent) && not (is_gone w p k))
   pub distinct : (p : ℕ) → is_distinct (line_of w p) ≡ true
   pub rising : (p : ℕ) → IsRising (stamp w p) (line_of w p)
+  pub allowed : EachWasAllowed w
 
 -- the member is there and up
 pub record IsPresent (w : Rehearsal) (p : ℕ) : Type 0 where

@@ -1,5 +1,5 @@
 -- A record of steps, and where it leads.
-use Rattle.std.specs.Prelude.{ℕ, List, [], ◌∷◌, ◌++◌, fold}
+use Rattle.std.specs.Prelude.{ℕ, List, [], ◌∷◌, ◌++◌, fold, take}
 use Rattle.ct_model.specs.declared.step.Step.{Step}
 use Rattle.ct_model.specs.Setting.{Setting}
 use Rattle.ct_model.specs.State.{State, first_state}
@@ -27,3 +27,7 @@ empty s cells = record { setting = s; cells = cells; steps = [] }
 -- one more step
 abbrev pub extended : Rehearsal → Step → Rehearsal
 extended w step = record w { steps = w.steps ++ step ∷ [] }
+
+-- the first steps of a list, as a record
+abbrev pub first_steps : Setting → ℕ → List Step → ℕ → Rehearsal
+first_steps s cells steps k = record { setting = s; cells = cells; steps = take k steps }

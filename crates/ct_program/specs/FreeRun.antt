@@ -10,17 +10,19 @@ use Rattle.ct_rehearse.specs.declared.run_fault.RunFault.TheVariants as run
 use Rattle.ct_rehearse.specs.declared.rehearsed.Rehearsed.{Rehearsed}
 use Rattle.ct_rehearse.specs.Plans.{turns_made}
 use Rattle.ct_records.specs.Outcome.{IsOutcome}
+use Rattle.ct_records.specs.Replay.{IsAllowed}
 use Rattle.ct_program.specs.Planning.{turns_of}
 use Rattle.ct_streams.specs.Streams.{WritesPart}
 use Rattle.ct_records.specs.Text.{record_text}
 
 -- the record has the members, the bound and the cells that the options ask for; its steps are no more than the turns that they ask
--- for, and are a run that ends in a safe state, which its report shows
+-- for, each allowed where it stands, and are a run that ends in a safe state, which its report shows
 pub record IsRunOf (o : FreeOptions) (w : Rehearsal) : Type 0 where
   pub members : w.setting.members ≡ o.members
   pub bound : w.setting.bound ≡ o.batch
   pub cells : w.cells ≡ o.cells
   pub steps : length w.steps ≤ turns_of o
+  pub allowed : IsAllowed w
   pub outcome : IsOutcome w
 
 -- all turns that the options ask for were made on a world without steps

@@ -3,8 +3,9 @@ use Rattle.std.specs.Prelude.{◌≡◌, ◌≢◌, ◌≤◌, ◌-◌, ℕ, Lis
 use Rattle.std.specs.Io.KnownBytes.{Appends}
 use Rattle.ct_names.specs.declared.refusal.Refusal.{Refusal}
 use Rattle.ct_names.specs.declared.refusal.Refusal.TheVariants.{OutOfMemory}
+use Rattle.ct_model.specs.Lawful.{EachWasAllowed}
 use Rattle.ct_model.specs.Rehearsal.{Rehearsal}
-use Rattle.ct_world.specs.Replay.{AllowsFirst, IsRefusedAt}
+use Rattle.ct_world.specs.Replay.{IsRefusedAt}
 use Rattle.ct_records.specs.declared.program_fault.ProgramFault.{ProgramFault}
 use Rattle.ct_records.specs.declared.program_fault.ProgramFault.TheVariants.{Replay, Read, Reader, Write, Memory, Start, Exchanged}
 use Rattle.ct_records.specs.Script.{script}
@@ -14,7 +15,7 @@ use Rattle.ct_streams.specs.Streams.{WritesPart}
 
 -- each step of the record is allowed after those before it
 abbrev pub IsAllowed : Rehearsal → Type 0
-IsAllowed w = AllowsFirst w.setting w.cells w.steps (length w.steps)
+IsAllowed w = EachWasAllowed w
 
 -- step `at`, counted from 1, is refused, but not for want of memory, and each before it is allowed
 pub record IsRefused (w : Rehearsal) (at : ℕ) (refusal : Refusal) : Type 0 where

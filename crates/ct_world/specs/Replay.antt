@@ -1,26 +1,17 @@
 -- What a replay answers.
-use Rattle.std.specs.Prelude.{◌≡◌, ℕ, zero, suc, ◌<◌, List, length, take, slice_get, Some, None}
+use Rattle.std.specs.Prelude.{◌≡◌, ℕ, zero, suc, ◌<◌, List, length, slice_get, Some, None}
 use Rattle.ct_names.specs.declared.refusal.Refusal.{Refusal}
 use Rattle.ct_names.specs.declared.refusal.Refusal.TheVariants.{OutOfMemory}
 use Rattle.ct_model.specs.declared.step.Step.{Step}
 use Rattle.ct_model.specs.Setting.{Setting}
-use Rattle.ct_model.specs.Rehearsal.{Rehearsal}
-use Rattle.ct_model.specs.Cause.{cause}
+pub use Rattle.ct_model.specs.Rehearsal.{first_steps}
+pub use Rattle.ct_model.specs.Lawful.{AllowsFirst}
 use Rattle.ct_world.specs.Posting.{IsRefusal}
 use Rattle.ct_world.specs.World.{WorldView}
 
 -- a world of this setting and this many cells after the steps, with nothing prepared
 abbrev pub world_after : Setting → ℕ → List Step → WorldView
 world_after s cells steps = record { rehearsal = record { setting = s; cells = cells; steps = steps }; prepared = None }
-
--- the first steps of a list, as a record
-abbrev pub first_steps : Setting → ℕ → List Step → ℕ → Rehearsal
-first_steps s cells steps k = record { setting = s; cells = cells; steps = take k steps }
-
--- each step is allowed after those before it
-abbrev pub AllowsFirst : Setting → ℕ → List Step → ℕ → Type 0
-AllowsFirst s cells steps count = (k : ℕ) (step : Step) → k < count → slice_get steps k ≡ Some step →
-    cause (first_steps s cells steps k) step ≡ None
 
 -- step i, counted from 0, is refused, and each before it is allowed
 pub record IsRefusedAt (s : Setting) (cells : ℕ) (steps : List Step) (i : ℕ) (refusal : Refusal) : Type 0 where

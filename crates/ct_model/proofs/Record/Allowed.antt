@@ -74,4 +74,5 @@ allowed-lawful w step law allowed =
       row = s.row;
       names = allowed.waits;
       within = subst (λ g. IsWithin w.cells g (length w.steps + 1)) (sym s.gives) allowed.within;
+      free = allowed-free w step allowed;
     })

@@ -115,6 +115,7 @@ taken_of w step o law none names is =
       names = names;
       within = within_all w step o law is (limits-none w.cells (length w.steps + 1) (after w.setting (state_of w) (actor step) o)
           (actor step) (sym (limit-of w step o free.present is) ∙ free.limited));
+      free = none;
     }
 
 -- the first test that fires is the first of some, or of the others

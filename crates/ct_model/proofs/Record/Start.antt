@@ -67,6 +67,7 @@ lawful-first s cells = record {
   waits = λ p k. rw (line-first s cells p, state-first s cells, sent-first s) refl;
   distinct = λ p. rw (line-first s cells p) refl;
   rising = λ p. rw (line-first s cells p) tt;
+  allowed = λ k step low. absurd (omega arith);
 }
 
 pub knows-first : (s : Setting) → KnowsMessages s (first_state s)

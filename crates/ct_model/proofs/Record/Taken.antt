@@ -1,13 +1,14 @@
 -- A step that is taken: what it does to the record, whichever step it is.
 use Rattle.std.proofs.lemmas.Bool.Decides.{nat_tests}
 use Rattle.std.proofs.Common.{◌≡◌, ℕ, suc, ◌+◌, ◌<◌, ◌≤◌, Bool, true, false, List, [], ◌∷◌, ◌++◌, length, refl, ap, ◌∙◌, arith}
-use Rattle.std.proofs.Common.{Some, inl, inr, append-nil}
+use Rattle.std.proofs.Common.{None, Some, inl, inr, append-nil}
 use Rattle.std.specs.Prelude.{not, ◌==◌, ◌&&◌, ◌||◌, option_and_then}
 use Rattle.std.proofs.lemmas.List.{drop_at, length_push}
 use Rattle.ct_names.specs.Group.{is_member}
 use Rattle.ct_model.specs.declared.step.Step.{Step}
 use Rattle.ct_model.specs.declared.mail.Mail.TheVariants.{Nobody}
 use Rattle.ct_model.specs.Actor.{actor}
+use Rattle.ct_model.specs.Cause.{cause}
 use Rattle.ct_model.specs.AtValue.{Envelope}
 use Rattle.ct_model.specs.Setting.{Setting}
 use Rattle.ct_model.specs.Wire.{envelopes}
@@ -19,8 +20,10 @@ use Rattle.ct_model.specs.Waiting.LineChange.{Takes}
 use Rattle.ct_model.specs.Rehearsal.{Rehearsal, state_of, line_of, extended}
 use Rattle.ct_model.specs.Stamps.{is_gone, stamp, IsRising}
 use Rattle.ct_model.specs.Lawful.{is_distinct, Waits, IsAway, IsWithin, IsLawful, IsPresent, NamesWaiting}
+use Rattle.ct_model.specs.Cause.{cause}
 use Rattle.ct_model.proofs.Basics.Tests.{and_left, and_both, and_false, or_left, or_cases, not_true}
 use Rattle.ct_model.proofs.Basics.Tests.{self_number}
+use Rattle.ct_model.proofs.Record.Allows.{allowed-more}
 use Rattle.ct_model.proofs.Record.Runs.{state_of-push, run-push, stepped-next}
 use Rattle.ct_model.proofs.Record.Envelopes.{was_sent, sent_serial, serial_sent}
 use Rattle.ct_model.proofs.Record.Lines.{waiting-push, changed-distinct, changed-has, changed-rising}
@@ -35,6 +38,7 @@ pub record IsTaken (w : Rehearsal) (step : Step) (o : Outcome) : Type 0 where
   pub row : row w.setting (state_of w) (actor step) (member (state_of w) (actor step)) step ≡ Some o
   pub names : NamesWaiting w step
   pub within : IsWithin w.cells (after w.setting (state_of w) (actor step) o) (length w.steps + 1)
+  pub free : cause w step ≡ None
 
 pub next-row : (s : Setting) (g : State) (step : Step) (o : Outcome) → is_member s.members (actor step) ≡ true →
     is_crashed g (actor step) ≡ false → row s g (actor step) (member g (actor step)) step ≡ Some o →
@@ -175,4 +179,6 @@ module _ (w : Rehearsal) (step : Step) (o : Outcome) (law : IsLawful w) (taken :
 
   pub lawful-step : IsLawful (extended w step)
   unfolding h
-  lawful-step = grind (arith, run-step, state-step, after-size, length_push, unsent-step, waits-step, distinct-step, rising-step)
+  lawful-step =
+      let allowed = allowed-more w step law.allowed taken.free in
+      grind (arith, run-step, state-step, after-size, length_push, unsent-step, waits-step, distinct-step, rising-step, allowed)
