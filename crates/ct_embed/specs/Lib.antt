@@ -4,7 +4,6 @@ pub mod LetterCodes
 pub mod MessageCodes
 pub mod Opening
 pub mod Owned
-pub mod Owning
 pub mod Records
 pub mod RefusalNumbers
 pub mod Rooms

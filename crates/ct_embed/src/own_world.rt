@@ -30,14 +30,14 @@ pub(crate) struct OwnWorld {
 
 // Contracts see the record.
 impl Model for OwnWorld {
+    ghost use Rattle.std.specs.Prelude.{◌≡◌, None};
     ghost use Rattle.ct_model.specs.Rehearsal.{Rehearsal};
-    ghost use Rattle.ct_embed.specs.Owning.{IsOwn};
 
     ghost Value = { Rehearsal };
 
     ghost view = { λ w. w.world.rehearsal };
 
-    ghost invariant = { λ w. IsOwn w.world };
+    ghost invariant = { λ w. w.world.prepared ≡ None };
 }
 
 impl OwnWorld {
