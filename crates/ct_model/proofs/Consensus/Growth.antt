@@ -6,7 +6,7 @@ use Rattle.ct_names.specs.Value.{Value}
 use Rattle.ct_names.proofs.Lists
 use Rattle.ct_model.specs.AtValue.{Wire, Standing}
 use Rattle.ct_model.specs.Setting.{Setting}
-use Rattle.ct_model.specs.declared.wire.Wire.TheVariants.{Data, Est, Prop, Ack, Nack, Dec}
+use Rattle.ct_model.specs.declared.wire.Wire.TheVariants.{Est, Prop, Ack, Dec}
 use Rattle.ct_model.specs.State.{State, Member, Proposal, member, wires}
 use Rattle.ct_model.specs.Received.{has_ack, is_ack}
 use Rattle.ct_model.specs.Safe.{IsLocked, IsProposed}
@@ -66,15 +66,10 @@ acked-more xs ys sub k r p h =
 
 module _ (s : Setting) (g h : State) (up : Grows s g h) where
   pub IsProposed-grows : (k : ℕ) (v : Value) → IsProposed s g k v → IsProposed s h k v
-  IsProposed-grows k v f = record {
-    by = f.by;
-    member = f.member;
-    is_in = up.proposals (record { member = f.by; instance = k; value = v }) f.is_in;
-  }
+  IsProposed-grows k v f = search (f, up.proposals)
 
   pub IsCarried-grows : (k ts bound : ℕ) (v : Value) → IsCarried g k ts bound v → IsCarried h k ts bound v
-  IsCarried-grows k ts bound v f =
-      record { round = f.round; from_ts = f.from_ts; below = f.below; sent = up.sent (Prop k f.round v) f.sent }
+  IsCarried-grows k ts bound v f = search (f, up.sent)
 
   Reached-grows : (q k : ℕ) (P : Standing → Type 0) → ((c d : Standing) → IsOnward c d → P c → P d) → IsMember s.members q →
       Reached (member g q) k P → Reached (member h q) k P
@@ -84,15 +79,7 @@ module _ (s : Setting) (g h : State) (up : Grows s g h) where
   IsHeard-grows k r q ts f = record { value = f.value; its_ts = f.its_ts; sent = up.sent (Est k r q f.value f.its_ts) f.sent; low = f.low }
 
   IsPicked-grows : (k r : ℕ) (v : Value) → IsPicked s g k r v → IsPicked s h k r v
-  IsPicked-grows k r v f = record {
-    heard = f.heard;
-    once = f.once;
-    majority = f.majority;
-    from = f.from;
-    ts = f.ts;
-    best = up.sent (Est k r f.from v f.ts) f.best;
-    others = λ q is. IsHeard-grows k r q f.ts (f.others q is);
-  }
+  IsPicked-grows k r v f = search (f, f.others, up.sent, IsHeard-grows)
 
   pub IsLocked-grows : (k r : ℕ) (v : Value) → IsLocked s g k r v → IsLocked s h k r v
   IsLocked-grows k r v f = record {
@@ -101,36 +88,23 @@ module _ (s : Setting) (g h : State) (up : Grows s g h) where
   }
 
   pub IsFounded-grows : (w : Wire) → IsFounded s g w → IsFounded s h w
-  IsFounded-grows (Data m) f = tt
-  IsFounded-grows (Est k r q v ts) f = record {
-    sender = f.sender;
-    reached = Reached-grows q k (HasRound r) (λ c d on x. omega (arith, on.round)) f.sender f.reached;
-    proposed = IsProposed-grows k v f.proposed;
-    carried = λ pos. IsCarried-grows k ts r v (f.carried pos);
-  }
-  IsFounded-grows (Prop k r v) f = record {
-    first = f.first;
-    sender = f.sender;
-    reached = Reached-grows (coordinator s.members r) k (HasChosen r) (λ c d on. on.chosen r) f.sender f.reached;
-    proposed = IsProposed-grows k v f.proposed;
-    picked = IsPicked-grows k r v f.picked;
-  }
-  IsFounded-grows (Ack k r q) f = record {
-    first = f.first;
-    sender = f.sender;
-    reached = Reached-grows q k (HasTs r) (λ c d on x. omega (arith, on.ts)) f.sender f.reached;
-  }
-  IsFounded-grows (Nack k r q) f = tt
+  IsFounded-grows (Est k r q v ts) f =
+      let reached = Reached-grows q k (HasRound r) (λ c d on x. omega (arith, on.round)) f.sender f.reached in
+      grind (arith, f, reached, IsProposed-grows k v f.proposed, IsCarried-grows k ts r v)
+  IsFounded-grows (Prop k r v) f =
+      let reached = Reached-grows (coordinator s.members r) k (HasChosen r) (λ c d on. on.chosen r) f.sender f.reached in
+      grind (arith, f, reached, IsProposed-grows k v f.proposed, IsPicked-grows k r v f.picked)
+  IsFounded-grows (Ack k r q) f =
+      let reached = Reached-grows q k (HasTs r) (λ c d on x. omega (arith, on.ts)) f.sender f.reached in
+      grind (arith, f, reached)
   IsFounded-grows (Dec k r v) f = IsLocked-grows k r v f
+  IsFounded-grows _ f = f
 
   pub IsSound-grows : (q k : ℕ) (c : Standing) → IsSound s g q k c → IsSound s h q k c
-  IsSound-grows q k c f = record {
-    ts_low = f.ts_low;
-    started = f.started;
-    gathers = f.gathers;
-    tallies = f.tallies;
-    proposed = IsProposed-grows k c.estimate f.proposed;
-    carried = λ pos. IsCarried-grows k c.ts (c.round + 1) c.estimate (f.carried pos);
-    waits_own = λ is co. up.sent (Prop k c.round c.estimate) (f.waits_own is co);
-    tallies_own = λ is. up.sent (Prop k c.round c.estimate) (f.tallies_own is);
-  }
+  IsSound-grows q k c f = grind (
+    arith,
+    f,
+    IsProposed-grows k c.estimate f.proposed,
+    IsCarried-grows k c.ts (c.round + 1) c.estimate,
+    up.sent (Prop k c.round c.estimate),
+  )

@@ -42,8 +42,7 @@ module _ (s : Setting) (g : State) (holds : Holds s g) (k r : ℕ) (v : Value) (
       elim (p_or_other r later) [
         | inl e ↦ holds.one_proposal k later w v h (rw e at lock.proposed)
         | inr ne ↦
-            let prop : IsFoundedProp s g k later w = holds.founded (Prop k later w) h in
-            let pick : IsPicked s g k later w = prop.picked in
+            let pick : IsPicked s g k later w = (holds.founded (Prop k later w) h).picked in
             let both : IsShared s.members (ackers (wires g) k r) pick.heard =
             majorities s.members (ackers (wires g) k r) pick.heard (ackers-set s g k r holds) (heard-set s g k later w holds pick)
             lock.acked pick.majority in
@@ -52,10 +51,7 @@ module _ (s : Setting) (g : State) (holds : Holds s g) (k r : ℕ) (v : Value) (
             let its : IsHeard g k later both.member pick.ts = pick.others both.member both.in_other in
             let low : r ≤ its.its_ts = holds.ts_after_ack k r later both.member its.value its.its_ts ack its.sent (omega arith) in
             let best : IsFoundedEst s g k later pick.from w pick.ts = holds.founded (Est k later pick.from w pick.ts) pick.best in
-            let most : its.its_ts ≤ pick.ts = its.low in
-            let carried : IsCarried g k pick.ts later w = best.carried (let first : 1 ≤ r = founded_ack.first in omega arith) in
-            let from : pick.ts ≤ carried.round = carried.from_ts in
-            let below : carried.round < later = carried.below in
+            let carried : IsCarried g k pick.ts later w = best.carried (omega arith) in
             locked-below bound carried.round w (omega arith) (omega arith) carried.sent
       ]
 

@@ -1,5 +1,5 @@
 -- What the outcome of a step has to show, so that the facts hold after it.
-use Rattle.std.proofs.Common.{arith, ◌≡◌, ℕ, ◌≤◌, ◌<◌, Some, refl, sym, ◌∙◌, inl, inr}
+use Rattle.std.proofs.Common.{arith, ◌≡◌, ℕ, ◌≤◌, ◌<◌, Some, refl, ◌∙◌, inl, inr}
 use Rattle.ct_names.specs.Group.{IsMember}
 use Rattle.ct_names.specs.Membership.{IsIn}
 use Rattle.ct_names.specs.Value.{Value}
@@ -69,24 +69,22 @@ module _ (s : Setting) (g : State) (p : ℕ) (o : Outcome) (holds : Holds s g) (
       | inl old ↦ IsFounded-grows s g h later_state w (holds.founded w old)
       | inr new ↦ (ok.sent w new).0
     ];
-    one_proposal = λ k r v w a b. elim (Sent-cases s g p o (Prop k r v) a) [
-      | inl x ↦ elim (Sent-cases s g p o (Prop k r w) b) [
-        | inl y ↦ holds.one_proposal k r v w x y
-        | inr y ↦ sym ((ok.sent (Prop k r w) y).1 v x)
-      ]
-      | inr x ↦ elim (Sent-cases s g p o (Prop k r w) b) [
-        | inl y ↦ (ok.sent (Prop k r v) x).1 w y
-        | inr y ↦ (let same = one_wire o.mail (Prop k r v) (Prop k r w) x y in cc)
-      ]
-    ];
-    ts_after_ack = λ k r later q v ts a b lt. elim (Sent-cases s g p o (Ack k r q) a) [
-      | inl x ↦ elim (Sent-cases s g p o (Est k later q v ts) b) [
-        | inl y ↦ holds.ts_after_ack k r later q v ts x y lt
-        | inr y ↦ (ok.sent (Est k later q v ts) y).1 r x lt
-      ]
-      | inr x ↦ elim (Sent-cases s g p o (Est k later q v ts) b) [
-        | inl y ↦ (ok.sent (Ack k r q) x).1 later v ts y lt
-        | inr y ↦ (let same = one_wire o.mail (Ack k r q) (Est k later q v ts) x y in cc)
-      ]
-    ];
+    one_proposal = λ k r v w a b. grind (
+      arith,
+      Sent-cases s g p o (Prop k r v) a,
+      Sent-cases s g p o (Prop k r w) b,
+      holds.one_proposal k r v w,
+      λ (x : Carries o.mail (Prop k r v)). (ok.sent (Prop k r v) x).1 w,
+      λ (x : Carries o.mail (Prop k r w)). (ok.sent (Prop k r w) x).1 v,
+      one_wire o.mail (Prop k r v) (Prop k r w),
+    );
+    ts_after_ack = λ k r later q v ts a b lt. grind (
+      arith,
+      Sent-cases s g p o (Ack k r q) a,
+      Sent-cases s g p o (Est k later q v ts) b,
+      holds.ts_after_ack k r later q v ts,
+      λ (x : Carries o.mail (Ack k r q)). (ok.sent (Ack k r q) x).1 later v ts,
+      λ (x : Carries o.mail (Est k later q v ts)). (ok.sent (Est k later q v ts) x).1 r,
+      one_wire o.mail (Ack k r q) (Est k later q v ts),
+    );
   }

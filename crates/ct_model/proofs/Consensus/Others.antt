@@ -1,5 +1,5 @@
 -- The shapes of outcomes that turn in no round keep the facts, and so every step does.
-use Rattle.std.proofs.Common.{◌≡◌, ℕ, ◌+◌, true, List, [], ◌∷◌, Some, refl, sym, ◌∙◌, subst, inl, inr, arith}
+use Rattle.std.proofs.Common.{◌≡◌, ℕ, ◌+◌, true, List, [], ◌∷◌, Some, refl, sym, ◌∙◌, subst, inl, arith}
 use Rattle.ct_names.specs.Group.{IsMember}
 use Rattle.ct_names.specs.Membership.{IsIn}
 use Rattle.ct_names.specs.Value.{Value}
@@ -10,6 +10,7 @@ use Rattle.ct_model.specs.AtValue.{Wire, Standing}
 use Rattle.ct_model.specs.Setting.{Setting}
 use Rattle.ct_model.specs.declared.mail.Mail.TheVariants.{Nobody}
 use Rattle.ct_model.specs.State.{State, Member, member}
+use Rattle.ct_model.specs.Safe.{IsProposed}
 use Rattle.ct_model.specs.Next.{Outcome, plain, row, submit, receive, is_relayed, begin, close, proposed, after}
 use Rattle.ct_model.proofs.Consensus.Sent.{Sent, Carries, Sent-wire}
 use Rattle.ct_model.proofs.Consensus.Facts.{IsFounded, IsSound, Holds}
@@ -43,10 +44,7 @@ module _ (s : Setting) (g : State) (p : ℕ) (holds : Holds s g) (is : IsMember 
   allowed-receive : (w : Wire) → Sent g w → IsAllowed s g p (receive s p m w)
   allowed-receive w sent =
       let o : Outcome = receive s p m w in
-      allowed-silent o refl refl (λ x h. elim (Lists.IsIn-append_cases x m.got (w ∷ []) h) [
-        | inl a ↦ holds.got p is x a
-        | inr b ↦ elim b [ inl e ↦ rw e sent | inr never ↦ absurd never ]
-      ])
+      allowed-silent o refl refl (λ x h. grind (arith, Lists.IsIn-append_cases x m.got (w ∷ []) h, holds.got p is x, sent))
       (λ x c.
       let r = carried-if (is_relayed s p m.got w) w x c in
       rw r.1 (
@@ -60,16 +58,10 @@ module _ (s : Setting) (g : State) (p : ℕ) (holds : Holds s g) (is : IsMember 
 
   begun_sound : IsSound s (after s g p (begin s p m)) p (m.last + 1) fresh
   unfolding after
-  begun_sound = record {
-    ts_low = omega arith;
-    started = λ x. absurd (cc);
-    gathers = λ x. absurd (cc);
-    tallies = λ x. absurd (cc);
-    proposed = record { by = p; member = is; is_in = Lists.IsIn-append_right _ g.proposals (begin s p m).proposals (inl refl) };
-    carried = λ some. absurd (omega arith);
-    waits_own = λ x own. absurd (cc);
-    tallies_own = λ x. absurd (cc);
-  }
+  begun_sound =
+      let new : IsProposed s (after s g p (begin s p m)) (m.last + 1) (proposed s m) =
+      record { by = p; member = is; is_in = Lists.IsIn-append_right _ g.proposals (begin s p m).proposals (inl refl) } in
+      grind (arith, new)
 
   -- the member closes an instance, and moves on so
   allowed-close : (k : ℕ) (v : Value) → Advance m (close m k v).member → IsAllowed s g p (close m k v)

@@ -103,16 +103,13 @@ unfolding deliveries
 deliveries-few f bound zero few b h = absurd h
 deliveries-few f bound (suc c) few b h =
     let new : Batch = record { instance = suc c; messages = ordered (minus (f (suc c)) (joined (deliveries f c))) } in
-    elim (Lists.IsIn-append_cases b (deliveries f c) (new ∷ []) h) [
-      | inl a ↦ deliveries-few f bound c (λ k lo hi. few k lo (omega arith)) b a
-      | inr one ↦ elim one [
-        | inl e ↦
-            let short = length-minus (f (suc c)) (joined (deliveries f c)) in
-            let whole = few (suc c) (omega arith) (omega arith) in
-            rw e (omega arith)
-        | inr never ↦ absurd never
-      ]
-    ]
+    grind (
+      arith,
+      Lists.IsIn-append_cases b (deliveries f c) (new ∷ []) h,
+      deliveries-few f bound c (λ k lo hi. few k lo (omega arith)) b,
+      length-minus (f (suc c)) (joined (deliveries f c)),
+      few (suc c) (omega arith) (omega arith),
+    )
 
 -- what holds after every run
 

@@ -1,7 +1,7 @@
 -- The first test that fires, and the limits of a step that only sends.
-use Rattle.std.proofs.Common.{◌≡◌, ℕ, ◌+◌, ◌≤◌, ◌<◌, true, false, List, [], ◌∷◌, length, refl, ap, ◌∙◌, arith, Option, Some, None}
+use Rattle.std.proofs.Common.{◌≡◌, ℕ, ◌+◌, ◌≤◌, ◌<◌, false, List, [], ◌∷◌, length, refl, ap, ◌∙◌, arith, Option, Some, None}
 use Rattle.std.specs.Prelude.{nat_lt}
-use Rattle.std.proofs.lemmas.Bool.Decides.{nat_tests}
+pub use Rattle.std.proofs.lemmas.Bool.{le-ltb as low, lt-ltb as high, ltb-false as under}
 use Rattle.ct_names.specs.declared.limit.TheConstants.{MAX_ENVELOPES, MAX_STEPS}
 use Rattle.ct_names.specs.declared.limit.Limit.TheVariants.{Envelopes, Steps}
 use Rattle.ct_names.specs.declared.refusal.Refusal.{Refusal}
@@ -53,15 +53,6 @@ pub record IsKept (old new : Member) : Type 0 where
   pub last : new.last ≡ old.last
   pub current : new.current ≡ old.current
   pub batches : new.batches ≡ old.batches
-
-pub low : (bound k : ℕ) → k ≤ bound → nat_lt bound k ≡ false
-low bound k h = grind (arith, nat_tests)
-
-pub high : (bound k : ℕ) → bound < k → nat_lt bound k ≡ true
-high bound k h = grind (arith, nat_tests)
-
-pub under : (bound k : ℕ) → nat_lt bound k ≡ false → k ≤ bound
-under bound k h = grind (arith, nat_tests)
 
 pub overflow-is : (w : Rehearsal) (more : ℕ) → overflow w more
     ≡ first_fault (at (Full Envelopes) (nat_lt MAX_ENVELOPES (length (state_of w).sent + more))

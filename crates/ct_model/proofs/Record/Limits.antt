@@ -118,6 +118,12 @@ taken_of w step o law none names is =
       free = none;
     }
 
+-- and its actor began no more instances than there may be
+pub last_of : (w : Rehearsal) (step : Step) (o : Outcome) → IsLawful w → IsTaken w step o → o.member.last ≤ MAX_INSTANCES
+last_of w step o law taken =
+    let there = in_members w.setting (state_of w) (actor step) law.size taken.present.in_group in
+    rw (member-same w.setting (state_of w) (actor step) o there) at (taken.within.few_instances (actor step))
+
 -- the first test that fires is the first of some, or of the others
 pub first_fault-append : (some rest : List Test) → first_fault (some ++ rest) ≡ or_else (first_fault some) (first_fault rest)
 first_fault-append [] rest = refl

@@ -111,12 +111,7 @@ sends-new : (w : Rehearsal) (step : Step) (p k : ℕ) → sends (extended w step
 sends-new w step p k =
     let number : suc (length w.steps) ≡ length (w.steps ++ step ∷ []) = omega (arith, length-append w.steps (step ∷ [])) in
     let before : suc (length w.steps) - 1 ≡ length w.steps = omega arith in
-    ap (λ n. is_sent (beginning (extended w step) (suc (length w.steps))) p k && not (is_sent (beginning (extended w step) n) p k)) before
-    ∙ ap (λ n. is_sent (beginning (extended w step) n) p k && not (is_sent (beginning (extended w step) (length w.steps)) p k)) number
-    ∙ ap (λ (v : Rehearsal). is_sent v p k && not (is_sent (beginning (extended w step) (length w.steps)) p k))
-    (beginning-all (extended w step))
-    ∙ ap (λ (v : Rehearsal). is_sent (extended w step) p k && not (is_sent v p k))
-    (beginning-old w step (length w.steps) (omega arith) ∙ beginning-all w)
+    rw (before, number, beginning-all (extended w step), beginning-old w step (length w.steps) (omega arith), beginning-all w)
 
 -- the step of this number is one that the stamp looks for
 abbrev stamps : Rehearsal → ℕ → ℕ → ℕ → Bool

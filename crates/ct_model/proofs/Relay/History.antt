@@ -146,10 +146,7 @@ module _ (s : Setting) (done : List Step) (from : List ℕ) (g : State) (step : 
   still_at j e was = at-front g.sent (envelopes s.members o.mail) j e was
 
   still_got : (x : ℕ) (w : Wire) → IsMember s.members x → IsIn w (member g x).got → IsIn w (member h x).got
-  still_got x w isx inside = elim (p_or_other x p) [
-    | inl e ↦ rw (e, member-same s g p o holds is) (made.gets.more w (rw e at inside))
-    | inr ne ↦ rw (member-other s g p x o is isx ne) inside
-  ]
+  still_got x w isx inside = grind (arith, p_or_other x p, member-same, member-other, made.gets.more w)
 
   come_kept : (q j : ℕ) → IsMember s.members q → IsIn (Receive q j) (done ++ step ∷ []) → IsCome h q j
   come_kept q j isq inside = elim (Lists.IsIn-append_cases (Receive q j) done (step ∷ []) inside) [

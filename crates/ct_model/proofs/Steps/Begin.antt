@@ -1,21 +1,19 @@
 -- Begin.
-use Rattle.std.proofs.Common.{◌≡◌, ℕ, ◌+◌, ◌<◌, false, [], ◌∷◌, refl, ap, ◌∙◌, arith, Some, None}
+use Rattle.std.proofs.Common.{◌≡◌, ℕ, ◌+◌, ◌<◌, false, [], ◌∷◌, refl, ◌∙◌, arith, Some, None}
 use Rattle.std.specs.Prelude.{nat_lt}
 use Rattle.ct_names.specs.declared.limit.TheConstants.{MAX_INSTANCES}
 use Rattle.ct_names.specs.declared.refusal.Refusal.TheVariants.{Full}
 use Rattle.ct_names.specs.declared.limit.Limit.TheVariants.{Instances}
 use Rattle.ct_model.specs.declared.step.Step.TheVariants.{Begin}
-use Rattle.ct_model.specs.State.{Member, member}
-use Rattle.ct_model.specs.Next.{begin, proposed, is_empty, row, after}
+use Rattle.ct_model.specs.State.{member}
+use Rattle.ct_model.specs.Next.{begin, proposed, is_empty, row}
 use Rattle.ct_model.specs.Rehearsal.{Rehearsal, state_of}
 use Rattle.ct_model.specs.Cause.{at, first_fault, or_else, cause, overflow}
 use Rattle.ct_model.specs.Lawful.{IsLawful, IsPresent}
-use Rattle.ct_model.proofs.Record.Frame.{member-same}
 use Rattle.ct_model.proofs.Record.Causes.{own_tests, cause-none}
 use Rattle.ct_model.proofs.Record.Taken.{IsTaken}
-use Rattle.ct_model.proofs.Relay.Messages.{in_members}
 use Rattle.ct_model.proofs.Steps.Rows.{IsReady}
-use Rattle.ct_model.proofs.Record.Limits.{own_tests-is, cause-limited, limit-idle, taken_of}
+use Rattle.ct_model.proofs.Record.Limits.{own_tests-is, cause-limited, limit-idle, last_of, taken_of}
 
 module _ (w : Rehearsal) (p : ℕ) (h : first_fault (own_tests w (Begin p)) ≡ None) where
   -- what the tests of a Begin say where none fires
@@ -44,9 +42,5 @@ begin_taken w p law none =
     let free = cause-none w (Begin p) none in
     let r = begin-ready w p free.tested in
     let taken = taken_of w (Begin p) (begin w.setting p (member (state_of w) p)) law none tt (row-begin w p free.tested) in
-    let there = in_members w.setting (state_of w) p law.size free.present.in_group in
-    let last : (member (after w.setting (state_of w) p (begin w.setting p (member (state_of w) p))) p).last ≡
-    (member (state_of w) p).last + 1 =
-    ap (λ (m : Member). m.last) (member-same w.setting (state_of w) p (begin w.setting p (member (state_of w) p)) there) in
-    let within = taken.within.few_instances p in
+    let last = last_of w (Begin p) (begin w.setting p (member (state_of w) p)) law taken in
     record { idle = r.idle; something = r.something; few = omega arith; taken = taken }

@@ -1,22 +1,20 @@
 -- Follow.
-use Rattle.std.proofs.Common.{◌≡◌, ℕ, ◌+◌, ◌<◌, [], ◌∷◌, length, ap, ◌∙◌, arith, Some, None}
+use Rattle.std.proofs.Common.{◌≡◌, ℕ, ◌+◌, ◌<◌, [], ◌∷◌, length, ◌∙◌, arith, Some, None}
 use Rattle.std.specs.Prelude.{nat_lt}
 use Rattle.ct_names.specs.declared.limit.TheConstants.{MAX_INSTANCES}
 use Rattle.ct_names.specs.declared.limit.Limit.TheVariants.{Instances, Cells}
 use Rattle.ct_names.specs.declared.refusal.Refusal.TheVariants.{Full}
 use Rattle.ct_names.specs.Value.{Value}
 use Rattle.ct_model.specs.declared.step.Step.TheVariants.{Follow}
-use Rattle.ct_model.specs.State.{Member, member}
+use Rattle.ct_model.specs.State.{member}
 use Rattle.ct_model.specs.Received.{decided}
-use Rattle.ct_model.specs.Next.{follow, row, after}
+use Rattle.ct_model.specs.Next.{follow, row}
 use Rattle.ct_model.specs.Rehearsal.{Rehearsal, state_of}
 use Rattle.ct_model.specs.Cause.{at, first_fault, or_else, cause, overflow}
 use Rattle.ct_model.specs.Lawful.{IsLawful, IsPresent}
 use Rattle.ct_model.proofs.Record.Causes.{own_tests, cause-none}
-use Rattle.ct_model.proofs.Record.Frame.{member-same}
 use Rattle.ct_model.proofs.Record.Taken.{IsTaken}
-use Rattle.ct_model.proofs.Relay.Messages.{in_members}
-use Rattle.ct_model.proofs.Record.Limits.{own_tests-is, cause-limited, taken_of}
+use Rattle.ct_model.proofs.Record.Limits.{own_tests-is, cause-limited, last_of, taken_of}
 use Rattle.ct_model.proofs.Basics.Options.{some-of}
 use Rattle.ct_model.proofs.Steps.Close.{limit-close}
 use Rattle.ct_model.proofs.Steps.Rows.{IsBehind}
@@ -51,8 +49,5 @@ follow_taken w p law none =
     let b = follow-behind w p free.tested in
     let o = follow (member (state_of w) p) b.value in
     let taken = taken_of w (Follow p) o law none tt (row-follow w p b) in
-    let there = in_members w.setting (state_of w) p law.size free.present.in_group in
-    let last : (member (after w.setting (state_of w) p o) p).last ≡ (member (state_of w) p).last + 1 =
-    ap (λ (m : Member). m.last) (member-same w.setting (state_of w) p o there) in
-    let within = taken.within.few_instances p in
+    let last = last_of w (Follow p) o law taken in
     record { idle = b.idle; value = b.value; decision = b.decision; few = omega arith; taken = taken }
