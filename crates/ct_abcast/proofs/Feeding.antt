@@ -1,8 +1,7 @@
 -- What is pending, in order.
-use Rattle.std.proofs.Common.{◌≡◌, ℕ, ◌+◌, ◌<◌, ◌≤◌, Bool, true, false, cond, not, ◌&&◌, List, [], ◌∷◌, ◌++◌, length, get_or, take}
+use Rattle.std.proofs.Common.{◌≡◌, ℕ, ◌+◌, ◌<◌, ◌≤◌, true, false, cond, not, ◌&&◌, List, [], ◌∷◌, ◌++◌, length, get_or, take}
 use Rattle.std.proofs.Common.{map, sym, ap, ◌∙◌, subst, arith, length-append}
 use Rattle.std.specs.BTreeMap.{is_at}
-use Rattle.std.specs.List.{list_any}
 use Rattle.std.specs.List.Sorted.{IsStrictlySortedBy}
 use Rattle.std.specs.Ordering.{is_eq}
 use Rattle.std.proofs.lemmas.List.{take_all, take_more, take-append-le, map_push}
@@ -17,19 +16,12 @@ use Rattle.ct_names.proofs.Values.{length-ordered}
 use Rattle.ct_names.proofs.Sets.{set-rising, set-take, same_ordered, has-ordered}
 use Rattle.ct_abcast.specs.Batches.{joined, batch_after}
 use Rattle.ct_abcast.specs.Ordered.{Fed, IsFed}
-use Rattle.ct_abcast.proofs.Pending.{updated, pending-more, pending-same, pending-left, pending-set}
+use Rattle.ct_abcast.proofs.Pending.{pending-more, pending-same, pending-left, pending-set}
 
 -- the keys of the tree are messages
 
-at-is : (m other : Message) → is_at (ghosts.cmp m) other ≡ is_message m other
+pub at-is : (m other : Message) → is_at (ghosts.cmp m) other ≡ is_message m other
 at-is m other = ap is_eq (same_cmp m other) ∙ sym (message-order m other)
-
--- the keys of the tree after one of them was put in or taken out
-pub tree-updated : (old new : List Message) (message : Message) (b : Bool) →
-    ((q : Message) → list_any (is_at (ghosts.cmp q)) new
-    ≡ cond (is_at (ghosts.cmp message) q) b (list_any (is_at (ghosts.cmp q)) old)) → (m : Message) →
-    has new m ≡ cond (is_message message m) b (has old m)
-tree-updated = updated (λ m. is_at (ghosts.cmp m)) at-is
 
 -- the keys of the tree are a set
 pub tree-set : (keys : List Message) → IsStrictlySortedBy ghosts.cmp keys → IsOrdered keys

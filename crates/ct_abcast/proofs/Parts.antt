@@ -11,10 +11,10 @@ use Rattle.std.specs.Option.{option_map}
 use Rattle.std.specs.Slice.{IsGetRangeResult}
 use denote.Ref.{Bor}
 use Rattle.ct_names.specs.Message.{Message}
-use Rattle.ct_names.specs.Value.{Value, minus, IsOrdered}
 use Rattle.ct_names.proofs.Sets.{set-minus}
-use Rattle.ct_abcast.specs.Batches.{joined, batch_after}
+use Rattle.ct_abcast.specs.Batches.{joined}
 use Rattle.ct_abcast.specs.Ends.{parts, AreEnds}
+use Rattle.ct_abcast.proofs.Fresh.{keys-has}
 
 -- as many parts as ends
 pub length-parts : (start : ℕ) (ends : List ℕ) (list : List Message) → length (parts start ends list) ≡ length ends
@@ -41,15 +41,13 @@ range-append list more start end low high =
     ∙ take-append-le (end - start) (drop start list) more (let l = length-drop start list in omega arith)
 
 -- what is appended is the last part
-parts-from : (start : ℕ) (ends : List ℕ) (list more : List Message) → AreEnds start ends (length list) →
+pub parts-from : (start : ℕ) (ends : List ℕ) (list more : List Message) → AreEnds start ends (length list) →
     parts start (ends ++ length (list ++ more) ∷ []) (list ++ more) ≡ parts start ends list ++ more ∷ []
 parts-from start [] list more h =
     grind (arith, drop-append_seam list more, length-append list more, take_all (length more) more (omega arith))
 parts-from start (end ∷ ends) list more h =
     let high = ends-low end ends (length list) h.1 in
-    let first = range-append list more start end h.0 high in
-    let rest = parts-from end ends list more h.1 in
-    cc
+    grind (arith, range-append list more start end h.0 high, parts-from end ends list more h.1)
 
 ends-from : (start : ℕ) (ends : List ℕ) (last next : ℕ) → AreEnds start ends last → last ≤ next → AreEnds start (ends ++ next ∷ []) next
 ends-from start [] last next h low = (omega (arith, h, low), refl)
@@ -85,8 +83,7 @@ pub part-at : (ends : List ℕ) (list all : List Message) (k from to : ℕ) (r :
     option_map (λ part. part.now) r ≡ slice_get (parts 0 ends list) k
 part-at ends list all k from to r h low all_is from_is to_is got =
     let p = part-from 0 ends list k h low in
-    let len : length all ≡ length list = ap length all_is in
-    part-got all from to r (omega arith) (omega arith) got
+    part-got all from to r (omega arith) (omega (arith, ap length all_is)) got
     ∙ (ap Some (λ i. slice_range (all_is i) (from_is i) (to_is i)) ∙ sym p.part)
 
 pub part-past : (ends : List ℕ) (list : List Message) (k : ℕ) → length ends ≤ k → slice_get (parts 0 ends list) k ≡ None
@@ -100,14 +97,5 @@ pub delivered-ends : (ends next : List ℕ) (list all more : List Message) → A
 delivered-ends ends next list all more h all_is next_is =
     rw next_is (ends-from 0 ends (length list) (length all) h (omega (arith, length-append list more, ap length all_is)))
 
-pub delivered-parts : (ends next : List ℕ) (list all more : List Message) → AreEnds 0 ends (length list) → all ≡ list ++ more →
-    next ≡ ends ++ length all ∷ [] → parts 0 next all ≡ parts 0 ends list ++ more ∷ []
-delivered-parts ends next list all more h all_is next_is = grind (arith, parts-from 0 ends list more h)
-
--- what is new of the set is the batch
-pub batch-is : (ends : List ℕ) (list : List Message) (v : Value) → AreEnds 0 ends (length list) → IsOrdered v →
-    minus v list ≡ batch_after (parts 0 ends list) v
-batch-is ends list v h set = grind (arith, set-minus v list set, joined-parts ends list h)
-
--- what lists and batches tell of the parts
-pub ruleset in_parts = (length-parts, joined-parts)
+-- what is told of the parts, and of what they have
+pub ruleset in_parts = (length-parts, joined-parts, part-past, keys-has, take_all, set-minus)

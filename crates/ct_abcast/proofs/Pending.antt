@@ -4,11 +4,9 @@ use Rattle.std.specs.List.{list_any}
 use Rattle.std.proofs.lemmas.List.{append-nil, take_more}
 use Rattle.std.proofs.lemmas.List.Folds.{list_any-append}
 use Rattle.std.proofs.lemmas.Grind.{flat_map-append}
-use Rattle.ct_names.specs.contracts.message.MessagePartialEq.TheImpl.{ghosts as equal}
 use Rattle.ct_names.specs.Message.{Message}
 use Rattle.ct_names.specs.Order.{is_message}
 use Rattle.ct_names.specs.Value.{has, minus, ordered}
-use Rattle.ct_names.proofs.Orders.{same_eq}
 use Rattle.ct_names.proofs.Receipts.{has-push}
 use Rattle.ct_names.proofs.Sets.{same_ordered, has-ordered}
 use Rattle.ct_names.proofs.Values.{same_message}
@@ -32,12 +30,6 @@ module _ (test : Message → Message → Bool) (same : (m other : Message) → t
   pub updated : ((q : Message) → list_any (test q) new ≡ cond (test message q) b (list_any (test q) old)) → (m : Message) →
       has new m ≡ cond (is_message message m) b (has old m)
   updated h m = grind (arith, h m, same message m, any-has (test m) new m (same m), any-has (test m) old m (same m))
-
--- the keys of a set so
-pub keys-updated : (old new : List Message) (message : Message) (b : Bool) →
-    ((q : Message) → list_any (equal.eq q) new ≡ cond (equal.eq message q) b (list_any (equal.eq q) old)) → (m : Message) →
-    has new m ≡ cond (is_message message m) b (has old m)
-keys-updated = updated equal.eq same_eq
 
 module _ (pending received new : List Message) (message : Message) (delivered : List Message) (h : IsPending pending received delivered)
     (is : new ≡ received ++ message ∷ []) where

@@ -18,3 +18,6 @@ messages-Decides list other same h = slice_eq-Decides eq-Decides list other same
 pub same_batch : (batch : Batch) (instance : ℕ) (messages : List Message) → batch.instance ≡ instance → batch.messages ≡ messages →
     batch ≡ record { instance = instance; messages = messages }
 same_batch batch instance messages e f = λ i. record { instance = e i; messages = f i }
+
+-- when two batches are the same
+pub ruleset in_batches = (messages-Decides, same_batch)

@@ -9,21 +9,16 @@ use Rattle.ct_names.proofs.Values.{same_message}
 use Rattle.ct_abcast.specs.declared.last.TheConstants.{ORIGINS}
 use Rattle.ct_abcast.specs.Last.{is_past, AreWithin}
 
--- numbers that grow leave no more messages past them
-module _ (old new : List ℕ) (grown : (origin : ℕ) → slice_index old origin ≤ slice_index new origin) where
-  still-within : (m : Message) → is_past old m ≡ false → is_past new m ≡ false
-  still-within m e = grind (arith, nat_tests, grown m.origin)
+-- one more message is seen, and numbers that grow leave no more messages past them
+module _ (old new : List ℕ) (keys : List Message) (m : Message) (within : AreWithin old keys)
+    (here : m.origin < ORIGINS → m.number ≤ slice_index new m.origin)
+    (grown : (origin : ℕ) → slice_index old origin ≤ slice_index new origin) where
+  still-within : (x : Message) → is_past old x ≡ false → is_past new x ≡ false
+  still-within x e = grind (arith, nat_tests, grown x.origin)
 
-  module _ (keys : List Message) (m : Message) (within : AreWithin old keys)
-      (here : m.origin < ORIGINS → m.number ≤ slice_index new m.origin) where
-    it-within : is_past new m ≡ false
-    it-within = grind (arith, nat_tests, here)
+  it-within : is_past new m ≡ false
+  it-within = grind (arith, nat_tests, here)
 
-    at : AreWithin new (insert_key equal.eq keys m)
-    at x there = grind (arith, still-within x, within x, it-within, has-push keys m x, same_message m x)
-
--- one more message is seen and inserted
-pub within-insert : (old new : List ℕ) (keys more : List Message) (m : Message) → AreWithin old keys →
-    (m.origin < ORIGINS → m.number ≤ slice_index new m.origin) → ((origin : ℕ) → slice_index old origin ≤ slice_index new origin) →
-    more ≡ insert_key equal.eq keys m → AreWithin new more
-within-insert old new keys more m within here grown is = rw is (at old new grown keys m within here)
+  -- it is inserted
+  pub within-insert : (more : List Message) → more ≡ insert_key equal.eq keys m → AreWithin new more
+  within-insert more is x there = grind (arith, is, still-within x, within x, it-within, has-push keys m x, same_message m x)

@@ -44,6 +44,7 @@ impl Batch {
     }
 
     /// Whether it is the batch of the instance with these messages, in this order.
+    #[tactic(auto, using(crate::proofs::Same::in_batches))]
     pub fn is_same(&self, instance: Instance, messages: &[Message]) -> bool
         ensures { IsTrue result ↔ (self.now ≡ record { instance = instance; messages = messages.now }) }
     {

@@ -64,6 +64,7 @@ impl Delivered {
     }
 
     // Whether the message was delivered. A number that is larger than all of the origin tells that it was not.
+    #[tactic(auto, using(crate::proofs::Parts::in_parts))]
     pub(crate) fn contains(&self, message: &Message) -> bool
         ensures { result ≡ has (joined self.now.batches) message.now }
     {
@@ -82,6 +83,7 @@ impl Delivered {
     }
 
     // The batch at the place, from 0.
+    #[tactic(auto, using(crate::proofs::Parts::in_parts))]
     pub(crate) fn get(&self, place: usize) -> Option<&[Message]>
         ensures { option_map (λ list. list.now) result ≡ slice_get self.now.batches place }
     {
@@ -112,6 +114,7 @@ impl Delivered {
     }
 
     // The messages of the set that were not delivered.
+    #[tactic(auto, using(crate::proofs::Parts::in_parts))]
     pub(crate) fn rest(&self, alloc: Global, set: &MsgSet) -> Result<Vec<Message>, AllocError>
         ensures { IfOk result (λ list. list.items ≡ batch_after self.now.batches set.now) }
     {

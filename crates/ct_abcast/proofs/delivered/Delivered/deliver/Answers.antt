@@ -4,10 +4,11 @@ use Rattle.indexmap.specs.IndexSet.{insert_key}
 use Rattle.ct_names.specs.contracts.message.MessagePartialEq.TheImpl.{ghosts as equal}
 use Rattle.ct_names.specs.Membership.{IsWithoutRepeats}
 use Rattle.ct_names.specs.Value.{minus}
+use Rattle.ct_names.proofs.Sets.{set-minus}
 use Rattle.ct_names.proofs.Values.{IsWithoutRepeats-ordered}
 use Rattle.ct_abcast.proofs.Fresh.{insert-more}
 use Rattle.ct_abcast.proofs.Within.{within-insert}
-use Rattle.ct_abcast.proofs.Parts.{delivered-ends, delivered-parts, batch-is}
+use Rattle.ct_abcast.proofs.Parts.{delivered-ends, joined-parts, parts-from}
 use Rattle.ct_abcast.proofs.delivered.Delivered.deliver.Goals as goal
 
 pub loop-message-preserved : goal.loop-message-preserved
@@ -17,17 +18,13 @@ loop-message-preserved c =
     (c.items-message-items.ensures.ordered ∙ sym c.items-message-items.ensures.value) (IsWithoutRepeats-ordered c.args.set.now) in
     let inserted : c.insert.new.self.keys ≡ insert_key equal.eq c.loop-message.self-inside.messages.keys c.message-item.result =
     search rules in
+    let more = insert-more c.self.inside.messages.keys items c.loop-message.message-index c.message-item.result once
+    c.loop-message-test.true c.message-item.is in
     record {
-      keys = grind (
-        arith,
-        inserted,
-        c.loop-message.invariant.keys,
-        insert-more c.self.inside.messages.keys items
-            c.loop-message.message-index c.message-item.result once c.loop-message-test.true c.message-item.is,
-      );
+      keys = grind (arith, c.loop-message.invariant.keys, more);
       ends = c.loop-message.invariant.ends;
-      within = within-insert _ c.see.new.self c.loop-message.self-inside.messages.keys c.insert.new.self.keys c.message-item.result
-          c.loop-message.invariant.within c.see.ensures.here c.see.ensures.grown inserted;
+      within = within-insert _ c.see.new.self c.loop-message.self-inside.messages.keys c.message-item.result
+          c.loop-message.invariant.within c.see.ensures.here c.see.ensures.grown c.insert.new.self.keys inserted;
       room = omega (arith, c.insert.ensures.spare, c.loop-message.invariant.room);
     }
 
@@ -54,11 +51,13 @@ invariant_of-self c = record {
 
 pub returns-clause-batches : goal.returns-clause-batches
 returns-clause-batches c =
-    let more = minus c.args.set.now c.self.inside.messages.keys in
+    let ends = c.self.inside.ends.items in
+    let keys = c.self.inside.messages.keys in
     grind (
       arith,
-      delivered-parts c.self.inside.ends.items c.push.new.self.items c.self.inside.messages.keys
-          c.loop-message.self-inside.messages.keys more c.self.invariant.ends_there (all_is c) (ends_are c),
-      batch-is c.self.inside.ends.items c.self.inside.messages.keys c.args.set.now c.self.invariant.ends_there
-          c.items-message-items.ensures.ordered,
+      all_is c,
+      ends_are c,
+      parts-from 0 ends keys (minus c.args.set.now keys) c.self.invariant.ends_there,
+      set-minus c.args.set.now keys c.items-message-items.ensures.ordered,
+      joined-parts ends keys c.self.invariant.ends_there,
     )

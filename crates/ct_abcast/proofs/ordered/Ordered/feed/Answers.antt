@@ -2,7 +2,8 @@ use Rattle.std.proofs.Common.{◌+◌, true, ◌∙◌, ap}
 use Rattle.ct_names.specs.Value.{has}
 use Rattle.ct_abcast.specs.Batches.{joined}
 use Rattle.ct_abcast.specs.Ordered.{Fed}
-use Rattle.ct_abcast.proofs.Feeding.{fed-more, fed-same, tree-updated}
+use Rattle.ct_abcast.proofs.Feeding.{at-is, fed-more, fed-same}
+use Rattle.ct_abcast.proofs.Pending.{updated}
 use Rattle.ct_abcast.proofs.ordered.Ordered.feed.Goals as goal
 use Rattle.ct_abcast.proofs.ordered.Ordered.feed.Goals.{then-not-contains+in_ok-insert, else-not-contains}
 
@@ -18,7 +19,7 @@ loop-self-preserved c =
           fed-more before now received delivered message c.loop-self.invariant c.loop-self-test.true c.index-received-self.is
           (ap (λ inside. inside.fed + 1) w.self-inside-is) w.if-not-contains.ensures
           (λ m. ap (λ inside. has inside.messages.keys m) w.self-inside-is
-          ∙ tree-updated before.messages w.insert.new.self.keys message true w.in_ok-insert.ensures.updates.0 m)
+          ∙ updated _ at-is before.messages w.insert.new.self.keys message true w.in_ok-insert.ensures.updates.0 m)
       | else-not-contains w ↦
           fed-same before now received delivered message c.loop-self.invariant c.loop-self-test.true c.index-received-self.is
           (ap (λ inside. inside.fed + 1) w.self-inside-is) w.if-not-contains.ensures

@@ -1,6 +1,6 @@
 use Rattle.std.proofs.Common.{false}
-use Rattle.ct_abcast.proofs.Feeding.{tree-updated}
-use Rattle.ct_abcast.proofs.Pending.{taken-more}
+use Rattle.ct_abcast.proofs.Feeding.{at-is}
+use Rattle.ct_abcast.proofs.Pending.{taken-more, updated}
 use Rattle.ct_abcast.proofs.ordered.Ordered.take_out.Goals as goal
 
 pub loop-message-preserved : goal.loop-message-preserved
@@ -11,6 +11,6 @@ loop-message-preserved c =
     let now = c.remove.new.self.keys in
     record {
       left = taken-more c.args.self.now.messages before now xs c.loop-message.message-index m c.loop-message-test.true c.message-item.is c.loop-message.invariant.left
-          (tree-updated before now m false c.remove.ensures.updates.0);
+          (updated _ at-is before now m false c.remove.ensures.updates.0);
       fed = c.loop-message.invariant.fed;
     }
