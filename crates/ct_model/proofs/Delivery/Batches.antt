@@ -97,20 +97,8 @@ closed-row : (s : Setting) (g : State) (p : ℕ) (m : Member) (step : Step) (o :
 closed-row s g p m step o e f = by_shape s g p m (λ x. HasClosed x.member) step o (record {
   submits = λ c good. f;
   gets = λ k w at. closed-got m w f;
-  opens = λ idle some. record {
-    closed = f.closed;
-    idle = λ e. some-none _ (sym e);
-    busy = λ c e. let l : f.closed ≡ m.last = f.idle (none-is m.current idle) in omega arith;
-    batches = f.batches;
-    decided = f.decided;
-  };
-  turns = λ a c t open_at taken. record {
-    closed = f.closed;
-    idle = λ e. some-none t.after (sym e);
-    busy = λ d e. f.busy c open_at;
-    batches = f.batches;
-    decided = f.decided;
-  };
+  opens = λ idle some. grind (arith, f.idle (none-is m.current idle), f.batches, f.decided);
+  turns = λ a c t open_at taken. grind (arith, f.busy c open_at, f.batches, f.decided);
   closes = λ c v open_at has delivers. closed-close m m.last v has f (f.busy c open_at);
   follows = λ v idle has delivers.
       let l : f.closed ≡ m.last = f.idle (none-is m.current idle) in closed-close m (m.last + 1) v has f (omega arith);

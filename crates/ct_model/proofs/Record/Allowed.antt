@@ -4,7 +4,7 @@ use Rattle.std.proofs.Common.{arith, ◌≡◌, ℕ, ◌+◌, false, length, ap,
 use Rattle.ct_model.specs.declared.step.Step.{Step}
 use Rattle.ct_model.specs.Actor.{actor}
 use Rattle.ct_model.specs.State.{State, member}
-use Rattle.ct_model.specs.Next.{Outcome, row, after, next}
+use Rattle.ct_model.specs.Next.{Outcome, row, next}
 use Rattle.ct_model.specs.Rehearsal.{Rehearsal, state_of, line_of, extended}
 use Rattle.ct_model.specs.Cause.{first_fault, tests, limits, limit, cause}
 use Rattle.ct_model.specs.Lawful.{IsLawful, IsWithin, NamesWaiting}
@@ -36,12 +36,7 @@ cause-allowed w step law none =
     let tested = sym (ap first_fault (own_tests-is w step)) ∙ (cause-none w step none).tested in
     let o = some-of (row w.setting (state_of w) (actor step) (member (state_of w) (actor step)) step) (enabled w step law names tested) in
     let taken = taken_of w step o.0 law none names o.1 in
-    record {
-      after = after w.setting (state_of w) (actor step) o.0;
-      enabled = next-step w step o.0 law taken;
-      waits = taken.names;
-      within = taken.within;
-    }
+    search (taken, next-step w step o.0 law taken)
 
 -- where a row gives an outcome and what the step names waits or not, as the step asks, no test of its own fires
 
@@ -68,11 +63,5 @@ allowed-free w step allowed =
 pub allowed-lawful : (w : Rehearsal) (step : Step) → IsLawful w → IsAllowed w step → IsLawful (extended w step)
 allowed-lawful w step law allowed =
     let s = next-is w.setting (state_of w) step allowed.after allowed.enabled in
-    lawful-step w step s.outcome law
-    (record {
-      present = record { in_group = s.in_group; up = s.up };
-      row = s.row;
-      names = allowed.waits;
-      within = subst (λ g. IsWithin w.cells g (length w.steps + 1)) (sym s.gives) allowed.within;
-      free = allowed-free w step allowed;
-    })
+    let within = subst (λ g. IsWithin w.cells g (length w.steps + 1)) (sym s.gives) allowed.within in
+    lawful-step w step s.outcome law (search (s, allowed, within, allowed-free w step allowed))

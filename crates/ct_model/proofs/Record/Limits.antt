@@ -95,28 +95,18 @@ module _ (w : Rehearsal) (step : Step) (o : Outcome) (law : IsLawful w)
   few_each q = grind (arith, cases_eq, after-submitted, submissions-append, row-submits)
 
   within_all : IsWithin w.cells (after w.setting (state_of w) (actor step) o) (length w.steps + 1)
-  within_all = record {
-    few_submissions = few_each;
-    few_instances = for_each (λ m. m.last) MAX_INSTANCES law.within.few_instances under.few_instances;
-    few_rounds = for_each round_of MAX_ROUNDS law.within.few_rounds under.few_rounds;
-    few_envelopes = under.few_envelopes;
-    few_batches = under.few_batches;
-    few_steps = under.few_steps;
-  }
+  within_all =
+      let instances = for_each (λ m. m.last) MAX_INSTANCES law.within.few_instances under.few_instances in
+      search (under, few_each, instances, for_each round_of MAX_ROUNDS law.within.few_rounds under.few_rounds)
 
 -- a step without a cause is taken, with the outcome of its row
 pub taken_of : (w : Rehearsal) (step : Step) (o : Outcome) → IsLawful w → cause w step ≡ None → NamesWaiting w step →
     row w.setting (state_of w) (actor step) (member (state_of w) (actor step)) step ≡ Some o → IsTaken w step o
 taken_of w step o law none names is =
     let free = cause-none w step none in
-    record {
-      present = free.present;
-      row = is;
-      names = names;
-      within = within_all w step o law is (limits-none w.cells (length w.steps + 1) (after w.setting (state_of w) (actor step) o)
-          (actor step) (sym (limit-of w step o free.present is) ∙ free.limited));
-      free = none;
-    }
+    let under = limits-none w.cells (length w.steps + 1) (after w.setting (state_of w) (actor step) o) (actor step)
+    (sym (limit-of w step o free.present is) ∙ free.limited) in
+    search (free, within_all w step o law is under)
 
 -- and its actor began no more instances than there may be
 pub last_of : (w : Rehearsal) (step : Step) (o : Outcome) → IsLawful w → IsTaken w step o → o.member.last ≤ MAX_INSTANCES

@@ -55,10 +55,4 @@ pub record IsDeliverStep (w : Rehearsal) (p : ℕ) : Type 0 where
 pub deliver_taken : (w : Rehearsal) (p : ℕ) → IsLawful w → cause w (Deliver p) ≡ None → IsDeliverStep w p
 deliver_taken w p law none =
     let d = deliver-due w p (cause-none w (Deliver p) none).tested in
-    record {
-      standing = d.standing;
-      is_open = d.is_open;
-      value = d.value;
-      decision = d.decision;
-      taken = taken_of w (Deliver p) (deliver (member (state_of w) p) d.value) law none tt (row-deliver w p d);
-    }
+    search (d, taken_of w (Deliver p) (deliver (member (state_of w) p) d.value) law none tt (row-deliver w p d))
