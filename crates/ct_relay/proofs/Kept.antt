@@ -1,5 +1,5 @@
 -- What stays as it is when one more is taken, and when the marks cover more numbers.
-use Rattle.std.proofs.Common.{◌≡◌, ℕ, ◌+◌, Bool, true, false, ◌||◌, List, [], ◌∷◌, ◌++◌, Option, Some, None, refl, sym, ap, ap₂, ◌∙◌}
+use Rattle.std.proofs.Common.{◌≡◌, ℕ, ◌+◌, Bool, true, false, ◌||◌, List, [], ◌∷◌, ◌++◌, Option, Some, None, refl, ap, ap₂, ◌∙◌}
 use Rattle.std.proofs.Common.{◌⊎◌, arith, length, get_or, zero, suc}
 use Rattle.std.specs.Prelude.{is_some, option_map, replicate}
 use Rattle.std.specs.List.{list_any}
@@ -12,11 +12,11 @@ use Rattle.ct_relay.specs.declared.relay_id.RelayId.TheVariants.{Data, Dec}
 use Rattle.ct_relay.specs.Taken.{is_id, with_id}
 use Rattle.ct_relay.specs.Marks.{told, covers_id, told_of, with_mark_of, IsKept}
 use Rattle.ct_relay.proofs.Receipts.{once-last, out, same-is_id}
-use Rattle.ct_relay.proofs.Marked.{or-false, told-with_mark}
+use Rattle.ct_relay.proofs.Marked.{told-with_mark}
 
 -- one more comes last
 added : (ids : List RelayId) (id x : RelayId) → list_any (is_id x) (ids ++ id ∷ []) ≡ (list_any (is_id x) ids || is_id x id)
-added ids id x = list_any-append (is_id x) ids (id ∷ []) ∙ ap (λ b. list_any (is_id x) ids || b) (sym (or-false (is_id x id)))
+added ids id x = grind (arith, list_any-append (is_id x) ids (id ∷ []))
 
 -- what is covered is told of, and nothing else is
 covered-some : (known : Known) (id : RelayId) → covers_id known id ≡ is_some (told_of known id)
@@ -25,30 +25,16 @@ covered-some known id = grind arith
 same-marks : (known : Known) (id : RelayId) → covers_id known id ≡ false → with_mark_of known id ≡ known
 same-marks known id e = grind arith
 
-or-kept : (a b c : Bool) → (a ≡ true → b ≡ true) → (a || c) ≡ true → (b || c) ≡ true
-or-kept a b c k e = grind arith
-
--- one more is marked as it stands in the list
-marked-more : (known : Known) (id x : RelayId) (in_order in_others : Bool) (now : Option Bool) → covers_id known id ≡ true →
-    now ≡ option_map (λ a. a || is_id x id) (told_of known x) → ((b : Bool) → told_of known x ≡ Some b → b ≡ in_order) →
-    (told_of known x ≡ None → in_others ≡ in_order) →
-    ((b : Bool) → now ≡ Some b → b ≡ (in_order || is_id x id)) × (now ≡ None → in_others ≡ (in_order || is_id x id))
-marked-more known id x in_order in_others now there is covered uncovered =
-    (λ b e. grind arith, λ e. grind (arith, covered-some known id, covered-some known x, same-is_id x id))
-
 module _ (order : List RelayId) (known : Known) (others : List RelayId) (kept : IsKept order known others) (id : RelayId)
     (first : list_any (is_id id) order ≡ false) where
   -- it is covered, and leaves the others as they are
   pub marked-kept : covers_id known id ≡ true → IsKept (order ++ id ∷ []) (with_mark_of known id) others
-  marked-kept there =
-      let more = λ (x : RelayId). marked-more known id x (list_any (is_id x) order) (list_any (is_id x) others)
-      (told_of (with_mark_of known id) x) there (told-with_mark known id x) (kept.covered x) (kept.uncovered x) in
-      record {
-        once = once-last order id (out order id first) kept.once;
-        taken = λ x there. added order id x ∙ ap (λ l. l || is_id x id) (kept.taken x there);
-        covered = λ x b e. (more x).0 b e ∙ sym (added order id x);
-        uncovered = λ x e. (more x).1 e ∙ sym (added order id x);
-      }
+  marked-kept there = record {
+    once = once-last order id (out order id first) kept.once;
+    taken = λ x there. grind (arith, added order id x, kept.taken x);
+    covered = λ x b e. grind (arith, added order id x, told-with_mark known id x, kept.covered x);
+    uncovered = λ x e. grind (arith, added order id x, told-with_mark known id x, kept.uncovered x, covered-some known, same-is_id x id);
+  }
 
   -- it is not covered, and stands with the others
   pub other-kept : covers_id known id ≡ false → IsKept (order ++ id ∷ []) (with_mark_of known id) (with_id others id)
@@ -56,11 +42,10 @@ module _ (order : List RelayId) (known : Known) (others : List RelayId) (kept : 
       let not-other : with_id others id ≡ others ++ id ∷ [] = grind (arith, covered-some known id, kept.uncovered id, first) in
       rw (same-marks known id away, not-other) (record {
         once = once-last order id (out order id first) kept.once;
-        taken = λ x there. added order id x
-            ∙ or-kept (list_any (is_id x) others) (list_any (is_id x) order) (is_id x id) (kept.taken x) (sym (added others id x) ∙ there);
+        taken = λ x there. grind (arith, added order id x, added others id x, kept.taken x);
         covered = λ x b e.
             grind (arith, kept.covered x b e, added order id x, covered-some known id, covered-some known x, same-is_id x id);
-        uncovered = λ x e. added others id x ∙ ap (λ l. l || is_id x id) (kept.uncovered x e) ∙ sym (added order id x);
+        uncovered = λ x e. grind (arith, added others id x, kept.uncovered x, added order id x);
       })
 
 abbrev none : List ℕ

@@ -1,6 +1,6 @@
 -- What the marks tell after one more was taken.
-use Rattle.std.proofs.Common.{◌≡◌, ℕ, Bool, true, false, Option, ◌||◌, ◌&&◌, ◌==◌, List, [], ap}
-use Rattle.std.proofs.Common.{◌∙◌, arith, set, length-set}
+use Rattle.std.proofs.Common.{◌≡◌, ℕ, Bool, true, false, Option, ◌||◌, ◌&&◌, ◌==◌, List, []}
+use Rattle.std.proofs.Common.{arith, set, length-set}
 use Rattle.std.specs.Prelude.{option_map, slice_index_or}
 use Rattle.std.proofs.lemmas.Bool.Decides.{nat_tests}
 use Rattle.std.proofs.Math.Bool.{and_comm}
@@ -15,9 +15,6 @@ use Rattle.ct_relay.specs.declared.relay_id.RelayId.{RelayId}
 use Rattle.ct_relay.specs.declared.relay_id.RelayId.TheVariants.{Data, Dec}
 use Rattle.ct_relay.specs.Taken.{is_id}
 use Rattle.ct_relay.specs.Marks.{told, with_mark, told_of, with_mark_of}
-
-pub or-false : (b : Bool) → b ≡ (b || false)
-or-false b = grind arith
 
 -- a set with one more member has it and what it had
 has_member-with : (set : List ℕ) (one p : ℕ) → is_member MAX_MEMBERS p ≡ true →
@@ -52,5 +49,4 @@ told-with_mark known (Data origin number) (Data o n) =
 told-with_mark known (Data origin number) (Dec k r) = no-more (told known.decisions r k)
 told-with_mark known (Dec instance round) (Data o n) = no-more (told known.messages o n)
 told-with_mark known (Dec instance round) (Dec k r) =
-    told-added known.decisions round instance r k
-    ∙ ap (λ both. option_map (λ t. t || both) (told known.decisions r k)) (and_comm (r == round) (k == instance))
+    grind (arith, told-added known.decisions round instance r k, and_comm (r == round) (k == instance))
