@@ -56,19 +56,14 @@ module _ (s : Setting) (g : State) (p : ℕ) (o : Outcome) (holds : Holds s g) (
   pub kept : Holds s h
   kept = record {
     size = after-size s g p o ∙ holds.size;
-    got = λ q isq w x. Sent-old s g p o w (elim (p_or_other q p) [
-      | inl e ↦ ok.got w (rw (e, member-same s g p o holds is) at x)
-      | inr ne ↦ holds.got q isq w (rw (member-other s g p q o is isq ne) at x)
-    ]);
+    got = λ q isq w x. Sent-old s g p o w
+        (grind (arith, p_or_other q p, member-same s g p o holds is, member-other s g p q o is isq, ok.got w, holds.got q isq w));
     sound = λ q isq. elim (p_or_other q p) [
       | inl e ↦ rw (e, member-same s g p o holds is) ok.sound
       | inr ne ↦ rw (member-other s g p q o is isq ne)
           (λ c x. IsSound-grows s g h later_state q (member g q).last c (holds.sound q isq c x))
     ];
-    founded = λ w x. elim (Sent-cases s g p o w x) [
-      | inl old ↦ IsFounded-grows s g h later_state w (holds.founded w old)
-      | inr new ↦ (ok.sent w new).0
-    ];
+    founded = λ w x. grind (arith, Sent-cases s g p o w x, holds.founded w, IsFounded-grows s g h later_state w, ok.sent w);
     one_proposal = λ k r v w a b. grind (
       arith,
       Sent-cases s g p o (Prop k r v) a,

@@ -131,12 +131,7 @@ module _ (s : Setting) (g : State) (p : ℕ) (holds : Holds s g) (is : IsMember 
     others_heard : is_largest got e.ts ≡ true → (q : ℕ) → IsIn q (heard got) → IsHeard then k c.round q e.ts
     others_heard largest q x =
         let f = Readings.heard-in got q x in
-        record {
-          value = f.estimate.value;
-          its_ts = f.estimate.ts;
-          sent = rw f.member at (still_heard f.estimate f.is_in);
-          low = Readings.largest-in got e.ts f.estimate largest f.is_in;
-        }
+        search (rw f.member at (still_heard f.estimate f.is_in), Readings.largest-in got e.ts f.estimate largest f.is_in)
 
     own : coordinator s.members c.round ≡ p
     own = old.gathers gathers

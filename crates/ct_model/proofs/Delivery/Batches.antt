@@ -102,7 +102,7 @@ closed-row s g p m step o e f = by_shape s g p m (λ x. HasClosed x.member) step
   closes = λ c v open_at has delivers. closed-close m m.last v has f (f.busy c open_at);
   follows = λ v idle has delivers.
       let l : f.closed ≡ m.last = f.idle (none-is m.current idle) in closed-close m (m.last + 1) v has f (omega arith);
-  marks = λ crashed. record { closed = f.closed; idle = f.idle; busy = f.busy; batches = f.batches; decided = f.decided };
+  marks = λ crashed. grind (arith, f.batches, f.decided);
 }) e
 
 -- each member did

@@ -64,16 +64,8 @@ from-deliveries f (suc c) m h =
     let d : List Message = joined (deliveries f c) in
     let new : List Message = minus (f (suc c)) d in
     elim (Lists.IsIn-append_cases m d (ordered new) (rw (joined-deliveries f c) at h)) [
-      | inl a ↦
-          let r = from-deliveries f c m a in
-          record { instance = r.instance; first = r.first; closed = omega (arith, r.closed); is_in = r.is_in }
-      | inr b ↦
-          record {
-            instance = suc c;
-            first = omega arith;
-            closed = omega arith;
-            is_in = Values.minus-from (f (suc c)) d m (Values.ordered-from new m b);
-          }
+      | inl a ↦ grind (arith, from-deliveries f c m a)
+      | inr b ↦ grind (arith, Values.minus-from (f (suc c)) d m (Values.ordered-from new m b))
     ]
 
 -- two members
