@@ -1,5 +1,5 @@
 -- At rest, those that are up have received the same and delivered the same; where one has an instance open, each has it open.
-use Rattle.std.proofs.Common.{◌≡◌, ℕ, suc, ◌+◌, ◌≤◌, ◌<◌, true, false, List, [], ◌∷◌, Option, Some, None, refl, sym, ap}
+use Rattle.std.proofs.Common.{◌≡◌, ℕ, suc, ◌≤◌, ◌<◌, true, false, List, [], ◌∷◌, Option, Some, None, refl, sym, ap}
 use Rattle.std.proofs.Common.{◌∙◌, arith, take}
 use Rattle.ct_names.specs.Membership.{IsIn}
 use Rattle.ct_names.specs.Message.{Message}
@@ -10,12 +10,12 @@ use Rattle.ct_model.specs.declared.step.Step.{Step}
 use Rattle.ct_model.specs.AtValue.{Wire, Standing}
 use Rattle.ct_model.specs.Setting.{Setting}
 use Rattle.ct_model.specs.State.{State, Member, member, delivered, joined}
-use Rattle.ct_model.specs.Received.{HasDecided, decided, received, received_by}
+use Rattle.ct_model.specs.Received.{HasDecided, received, received_by}
 use Rattle.ct_model.specs.Next.{undelivered, proposed, is_empty}
 use Rattle.ct_model.specs.Relayed.{HasCaughtUp}
 use Rattle.ct_model.specs.Safe.{delivered_by}
 use Rattle.ct_model.specs.Senders.{senders}
-use Rattle.ct_model.proofs.Basics.Options.{some-none, none-is, some-of}
+use Rattle.ct_model.proofs.Basics.Options.{none-is, some-of}
 use Rattle.ct_model.proofs.Basics.Tests.{not_true}
 use Rattle.ct_model.proofs.Consensus.Locking.{agreed-run}
 use Rattle.ct_model.proofs.Delivery.Batches.{deliveries, decision, HasClosed, closed-run}
@@ -67,13 +67,8 @@ module _ (s : Setting) (steps : List Step) (g : State) (rest : IsAtRest s steps 
       go (member g p).current refl mine.0 mine.1
     where
       go : (o : Option Standing) → (member g p).current ≡ o → (v : Value) → HasDecided g p (suc (closed p).closed) v → ⊥
-      go None is v has =
-          let last : (closed p).closed ≡ (member g p).last = (closed p).idle is in
-          some-none v (sym (Blocked.undecided_next s g p isp (rest.blocked p isp) is)
-          ∙ ap (λ k. decided (member g p).got k) (let e : (member g p).last + 1 ≡ suc (closed p).closed = omega arith in e) ∙ has)
-      go (Some c) is v has =
-          some-none v (sym (Blocked.undecided s g p isp (rest.blocked p isp) c is)
-          ∙ ap (λ k. decided (member g p).got k) (sym ((closed p).busy c is)) ∙ has)
+      go None is v has = grind (arith, (closed p).idle is, Blocked.undecided_next s g p isp (rest.blocked p isp) is)
+      go (Some c) is v has = grind (arith, (closed p).busy c is, Blocked.undecided s g p isp (rest.blocked p isp) c is)
 
   level : (p q : ℕ) → IsUp s g p → IsUp s g q → (closed p).closed ≡ (closed q).closed
   level p q isp isq = let a = not_behind p q isp isq in let b = not_behind q p isq isp in omega arith

@@ -70,10 +70,7 @@ module _ (s : Setting) (g : State) (p : ℕ) (old : Envelope → Type 0) (work :
 
   dutiful-step : (step : Step) (o : Outcome) → row s g p m step ≡ Some o → IsDutiful o
   dutiful-step step o = by_shape s g p m IsDutiful step o (record {
-    submits = λ c good. record {
-      busy = λ d at. still (submit g p m c) d at;
-      submits = λ x h. elim h [ inl e ↦ rw e (refl, refl) | inr never ↦ absurd never ];
-    };
+    submits = λ c good. grind (arith, still (submit g p m c));
     gets = λ k w came. record {
       busy = λ d at. let f = still (receive s p m w) d at in (f.0, got-more m.got m.batches w f.1);
       submits = λ x h. absurd h;
@@ -85,18 +82,10 @@ module _ (s : Setting) (g : State) (p : ℕ) (old : Envelope → Type 0) (work :
       );
       submits = λ x h. absurd h;
     };
-    turns = λ a c t at taken. record {
-      busy = λ d same.
-          let f = work c at in
-          rw (← some-same t.after d same) (turn-duty old s.members p m c f.0 a t taken, f.1);
-      submits = λ x h. absurd h;
-    };
-    closes = λ c v at has delivers. record { busy = λ d none. some-none d none; submits = λ x h. absurd h };
-    follows = λ v idle has delivers. record { busy = λ d none. some-none d none; submits = λ x h. absurd h };
-    marks = λ crashed. record {
-      busy = λ d at. still (plain (record m { crashed = crashed }) Nobody) d at;
-      submits = λ x h. absurd h;
-    };
+    turns = λ a c t at taken. grind (arith, work c at, turn-duty old s.members p m c (work c at).0 a t taken);
+    closes = λ c v at has delivers. grind arith;
+    follows = λ v idle has delivers. grind arith;
+    marks = λ crashed. grind (arith, still (plain (record m { crashed = crashed }) Nobody));
   })
 
 -- by names of senders: each member's work, and that messages went from their origins to everyone

@@ -1,5 +1,5 @@
 -- Where nobody sent a nack of a round, who replied in it acked, so that its coordinator concludes it by the decision.
-use Rattle.std.proofs.Common.{◌≡◌, ℕ, true, cond, List, ◌++◌, Some, sym, ap, ◌∙◌, inl, inr, ◌⊎◌, arith}
+use Rattle.std.proofs.Common.{◌≡◌, ℕ, true, List, ◌++◌, Some, sym, ap, ◌∙◌, inl, inr, ◌⊎◌, arith}
 use Rattle.std.proofs.lemmas.Bool.Decides.{nat_tests}
 use Rattle.ct_names.specs.Group.{everyone, is_majority}
 use Rattle.ct_names.specs.Membership.{IsIn, IsWithoutRepeats}
@@ -9,14 +9,14 @@ use Rattle.ct_names.proofs.Lists
 use Rattle.ct_model.specs.declared.moves.Move.TheVariants as moves
 use Rattle.ct_model.specs.declared.step.Step.{Step}
 use Rattle.ct_model.specs.declared.step.Step.TheVariants.{Conclude}
-use Rattle.ct_model.specs.AtValue.{Wire, Standing, Turn}
+use Rattle.ct_model.specs.AtValue.{Wire, Standing}
 use Rattle.ct_model.specs.Setting.{Setting}
 use Rattle.ct_model.specs.Wire.{envelopes}
 use Rattle.ct_model.specs.declared.wire.Wire.TheVariants.{Nack, Dec}
-use Rattle.ct_model.specs.declared.mail.Mail.TheVariants.{Nobody, All}
+use Rattle.ct_model.specs.declared.mail.Mail.TheVariants.{All}
 use Rattle.ct_model.specs.State.{State, Member, member, wires}
 use Rattle.ct_model.specs.Received.{Ballots, ballots, is_ack, is_reply, has_ack, has_reply}
-use Rattle.ct_model.specs.Next.{Outcome, next, own_ballots, turn_at}
+use Rattle.ct_model.specs.Next.{next, own_ballots, turn_at}
 use Rattle.ct_model.specs.Run.{run}
 use Rattle.ct_model.proofs.Basics.Options.{some-same}
 use Rattle.ct_model.proofs.Consensus.Facts.{member_is}
@@ -58,7 +58,5 @@ decides s steps g h p c runs at unopposed e =
     let acked : is_majority s.members got.acked ≡ true =
     majority_of_more s.members got.replied got.acked (replied_once m.got m.last c.round) (majority_of s.members got.replied f.majority)
     (all_acked m.got m.last c.round (λ q x. unopposed q (holds.got p (member_is s.members p t.in_group) (Nack m.last c.round q) x))) in
-    let mail : t.outcome.mail ≡ All (Dec m.last c.round c.estimate) =
-    ap (λ (o : Outcome). o.mail) (sym u.gives) ∙ ap (λ (x : Turn). x.mail) (sym f.gives)
-    ∙ ap (λ b. cond b (All (Dec m.last c.round c.estimate)) Nobody) acked in
+    let mail : t.outcome.mail ≡ All (Dec m.last c.round c.estimate) = grind (arith, u.gives, f.gives, acked) in
     rw (← t.gives) (after-sent s g p t.outcome ∙ ap (λ x. g.sent ++ envelopes s.members x) mail)
