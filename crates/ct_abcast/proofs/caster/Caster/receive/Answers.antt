@@ -23,6 +23,7 @@ invariant_of-self-else-not-contains c =
     let received = c.self.inside.received.items in
     let delivered = joined c.self.inside.delivered.batches in
     let pushed : c.push.new.self.items ≡ received ++ c.args.message ∷ [] = search rules in (
-      pending-same c.self.inside.pending.keys received c.push.new.self.items c.args.message delivered c.self.invariant.0 pushed (search rules),
+      pending-same c.self.inside.pending.keys received c.push.new.self.items c.args.message delivered c.self.invariant.0 pushed
+          (search rules),
       fed-kept c.self.inside.ordered received c.push.new.self.items c.args.message delivered c.self.invariant.1 pushed,
     )

@@ -10,7 +10,7 @@ loop-message-preserved c =
     let before = c.loop-message.self-inside.messages.keys in
     let now = c.remove.new.self.keys in
     record {
-      left = taken-more c.args.self.now.messages before now xs c.loop-message.message-index m c.loop-message-test.true c.message-item.is c.loop-message.invariant.left
-          (updated _ at-is before now m false c.remove.ensures.updates.0);
+      left = taken-more c.args.self.now.messages before now xs c.loop-message.message-index m c.loop-message-test.true
+          c.message-item.is c.loop-message.invariant.left (updated _ at-is before now m false c.remove.ensures.updates.0);
       fed = c.loop-message.invariant.fed;
     }
