@@ -35,17 +35,9 @@ looked before after r t cells keeps w =
     let len = as_long before after cells in
     let read = somes_kept r (known_of before) (known_of after) w.read_known w.read_within keeps in
     let told = somes_kept t (known_of before) (known_of after) w.told_known w.told_within keeps in
-    record {
-      watching = record {
-        one_each = as_many after;
-        read_within = omega arith;
-        told_within = omega arith;
-        read_known = read.known;
-        told_known = told.known;
-      };
-      read = read.same;
-      told = told.same;
-    }
+    let read_within : r ≤ length (known_of after) = omega arith in
+    let told_within : t ≤ length (known_of after) = omega arith in
+    search (as_many after, read, told)
 
 -- one batch more was read
 pub record IsReadOn (before after : Watched) (batch : Batch) : Type 0 where
@@ -64,14 +56,9 @@ read_on before after r t batch cells keeps room known w =
     let len_before = length-map before (λ (n : Note Batch). n.known) in
     let more = somes_next r (known_of after) batch now.read_known (omega arith) known in
     let told_within = now.told_within in
+    let read_within : r + 1 ≤ length (known_of after) = omega arith in
     record {
-      watching = record {
-        one_each = as_many after;
-        read_within = omega arith;
-        told_within = told_within;
-        read_known = more.known;
-        told_known = now.told_known;
-      };
+      watching = search (as_many after, more.known, now);
       read = more.appended ∙ ap (λ batches. batches ++ batch ∷ []) kept.read;
       told = kept.told;
       below = λ less. ap (λ batches. slice_get batches r) (sym kept.told)
