@@ -1,5 +1,6 @@
 -- Arrays that are written value by value: what is left of one while its first values stand there.
-use Rattle.std.proofs.Common.{◌≡◌, ℕ, zero, suc, ◌+◌, ◌-◌, ◌<◌, ◌≤◌, Bool, true, false, List, [], ◌∷◌, ◌++◌, Result, Ok, Err, refl, ap, sym, ◌∙◌}
+use Rattle.std.proofs.Common.{◌≡◌, ℕ, zero, suc, ◌+◌, ◌-◌, ◌<◌, ◌≤◌, Bool, true, false, List, [], ◌∷◌, ◌++◌, Result, Ok, Err, refl, ap, sym}
+use Rattle.std.proofs.Common.{◌∙◌}
 use Rattle.std.proofs.Common.{append_assoc, append-nil, arith, length, get_or, add-one, drop, map}
 use Rattle.std.specs.Prelude.{OnOk, codes, flat_map, is_ok, if◌then◌else◌}
 use Rattle.std.proofs.Math.Seq.{drop-cons}

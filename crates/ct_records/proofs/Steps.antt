@@ -9,7 +9,8 @@ use Rattle.json.specs.Word.{ends_word}
 use Rattle.ct_names.specs.declared.command.Command.{Command}
 use Rattle.ct_model.specs.declared.step.Step.{Step}
 use Rattle.ct_model.specs.declared.step.Step.TheVariants.{Submit, Receive, Postpone}
-use Rattle.ct_model.specs.StepText.{Number, nothing, number, command, amount, command_entry, command_text, entry_text, rest_texts, step_entry}
+use Rattle.ct_model.specs.StepText.{Number, nothing, number, command, amount, command_entry, command_text, entry_text, rest_texts}
+use Rattle.ct_model.specs.StepText.{step_entry}
 use Rattle.ct_model.specs.StepText.{step_text}
 use Rattle.ct_records.specs.Lexemes.{lexemes, number_lexeme, entry_lexemes, command_lexemes, rest_lexemes, step_lexemes}
 use Rattle.ct_records.specs.Lexemes.{comma_if, pair_lexemes}

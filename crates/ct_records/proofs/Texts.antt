@@ -13,7 +13,8 @@ use Rattle.ct_model.specs.StepText.{Rest, nothing, number, command, amount, comm
 use Rattle.ct_records.specs.Lexemes.{lexemes, command_lexemes, step_lexemes, steps_lexemes, comma_if}
 use Rattle.ct_records.specs.Reading.{IsValid, Says, Reads, ReadsNumber, ReadsEntry, ReadsTail, ReadsStep, next_text}
 use Rattle.ct_records.proofs.Lexemes.{opens, steps_joined}
-use Rattle.ct_records.proofs.Fronts.{says_none, says_then, mark_begins, mark_comma, mark_first, left_is, number_plain, name_behind, entry_reads}
+use Rattle.ct_records.proofs.Fronts.{says_none, says_then, mark_begins, mark_comma, mark_first, left_is, number_plain, name_behind}
+use Rattle.ct_records.proofs.Fronts.{entry_reads}
 use Rattle.ct_records.proofs.Steps.{command_reads, tail_short, tail_numbered, tail_commanded, step_reads}
 use Rattle.ct_records.proofs.Utf8.{valid_then}
 use Rattle.ct_records.specs.Fits.{AllFit, CommandFits, RestFits, StepFits}
