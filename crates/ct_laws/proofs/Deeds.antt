@@ -4,7 +4,7 @@ use Rattle.std.proofs.Common.{append_assoc, append-nil}
 use Rattle.std.specs.Prelude.{if◌then◌else◌, Option, Some, None, Result, Ok, Err, fold}
 use Rattle.ct_names.specs.declared.refusal.Refusal.{Refusal}
 use Rattle.ct_model.specs.Cause.{cause}
-use Rattle.ct_model.specs.Rehearsal.{Rehearsal, extended}
+use Rattle.ct_model.specs.Rehearsal.{Rehearsal, empty, extended}
 use Rattle.ct_model.specs.declared.step.Step.{Step}
 use Rattle.ct_model.specs.declared.step.Step.TheVariants as step
 use Rattle.ct_choices.specs.Choices.{has_crashed}
@@ -16,11 +16,11 @@ use Rattle.ct_play.specs.Acting.{after_losses, after_step, done, done_by, done_b
 use Rattle.ct_play.specs.Acting.{go_on, step_of, stepped, unless_barred, unless_refused}
 use Rattle.ct_play.specs.Cuts.{barred}
 use Rattle.ct_play.specs.Picking.{waiting_from}
-use Rattle.ct_play.specs.Played.{Played, with_step}
+use Rattle.ct_play.specs.Played.{Played, with_record, with_step}
 use Rattle.ct_play.specs.Stating.{done_so, done_so_by, done_so_by_each, is_stated, stated_text, unless_other}
 use Rattle.ct_play.specs.declared.line_fault.LineFault.{LineFault}
 use Rattle.ct_play.specs.declared.line_fault.LineFault.TheVariants.{NotSo}
-use Rattle.ct_laws.specs.Places.{AreAllowed, AreDeeds, IsBy, IsDeed, IsSaid, IsUnless, behind}
+use Rattle.ct_laws.specs.Places.{AreAllowed, AreDeeds, EachIsAllowed, IsBy, IsDeed, IsSaid, IsUnless, behind, with_steps}
 
 -- ---- steps behind a record
 
@@ -35,27 +35,39 @@ allowed_both [] b w h k = subst (λ v. AreAllowed v b) (nothing_behind w) k
 allowed_both (s ∷ a) b w h k =
     (h.0, allowed_both a b (extended w s) h.1 (subst (λ v. AreAllowed v b) (sym (both_behind w (s ∷ []) a)) k))
 
+-- such a record is allowed throughout where the first one is
+pub whole_behind : (w v : Rehearsal) (steps : List Step) → v ≡ behind w steps → AreAllowed w steps → EachIsAllowed w → EachIsAllowed v
+whole_behind w v steps is more whole = subst EachIsAllowed (sym is) (allowed_both w.steps steps (empty w.setting w.cells) whole more)
+
+pub grown_whole : (s t : Played) (steps : List Step) → t ≡ with_steps s steps → AreAllowed s.rehearsal steps → EachIsAllowed s.rehearsal →
+    EachIsAllowed t.rehearsal
+grown_whole s t steps is more whole = whole_behind s.rehearsal t.rehearsal steps (ap (λ (v : Played). v.rehearsal) is) more whole
+
 -- a stage that has these steps more, of which this is true
 pub record Grows (P : List Step → Type 0) (s t : Played) : Type 0 where
   pub steps : List Step
-  pub is : t.rehearsal ≡ behind s.rehearsal steps
+  pub is : t ≡ with_steps s steps
   pub allowed : AreAllowed s.rehearsal steps
   pub so : P steps
+
+-- the same, which is so where the record is allowed throughout
+abbrev pub GrowsIf : (List Step → Type 0) → Played → Played → Type 0
+GrowsIf P s t = Grows (λ steps. EachIsAllowed s.rehearsal → P steps) s t
 
 pub grows_more : (P Q : List Step → Type 0) (s t : Played) → ((steps : List Step) → P steps → Q steps) → Grows P s t → Grows Q s t
 grows_more P Q s t f g = record { steps = g.steps; is = g.is; allowed = g.allowed; so = f g.steps g.so }
 
 pub grows_not : (P : List Step → Type 0) (s : Played) → P [] → Grows P s s
-grows_not P s h = record { steps = []; is = sym (nothing_behind s.rehearsal); allowed = tt; so = h }
+grows_not P s h = record { steps = []; is = ap (with_record s) (sym (nothing_behind s.rehearsal)); allowed = tt; so = h }
 
 -- and then more
 pub grows_on : (P Q R : List Step → Type 0) (s t u : Played) → Grows P s t → Grows Q t u →
-    ((a b : List Step) → t.rehearsal ≡ behind s.rehearsal a → P a → Q b → R (a ++ b)) → Grows R s u
+    ((a b : List Step) → t ≡ with_steps s a → AreAllowed s.rehearsal a → P a → Q b → R (a ++ b)) → Grows R s u
 grows_on P Q R s t u g h f = record {
   steps = g.steps ++ h.steps;
-  is = h.is ∙ ap (λ w. behind w h.steps) g.is ∙ both_behind s.rehearsal g.steps h.steps;
-  allowed = allowed_both g.steps h.steps s.rehearsal g.allowed (subst (λ w. AreAllowed w h.steps) g.is h.allowed);
-  so = f g.steps h.steps g.is g.so h.so;
+  is = h.is ∙ ap (λ v. with_steps v h.steps) g.is ∙ ap (with_record s) (both_behind s.rehearsal g.steps h.steps);
+  allowed = allowed_both g.steps h.steps s.rehearsal g.allowed (subst (λ (v : Played). AreAllowed v.rehearsal h.steps) g.is h.allowed);
+  so = f g.steps h.steps g.is g.allowed g.so h.so;
 }
 
 -- ---- one step
@@ -64,15 +76,15 @@ unless_grows : (s t : Played) (step : Step) (o : Option Refusal) → cause s.reh
     Grows (λ steps. steps ≡ step ∷ []) s t
 unless_grows s t step None free h =
     let same : with_step s step ≡ t = cc h in
-    record { steps = step ∷ []; is = ap (λ (r : Played). r.rehearsal) (sym same); allowed = (free, tt); so = refl }
+    record { steps = step ∷ []; is = sym same; allowed = (free, tt); so = refl }
 unless_grows s t step (Some refusal) free h = absurd (cc h)
 
 step_grows : (s t : Played) (step : Step) → stepped s step ≡ Ok t → Grows (λ steps. steps ≡ step ∷ []) s t
 unfolding stepped
 step_grows s t step h = unless_grows s t step (cause s.rehearsal step) refl h
 
-unless_same : (o : Option LineFault) (t u : Played) → unless_barred o t ≡ Ok u → t ≡ u
-unless_same None t u h = cc h
+unless_same : (o : Option LineFault) (t u : Played) → unless_barred o t ≡ Ok u → (o ≡ None) × (t ≡ u)
+unless_same None t u h = (refl, cc h)
 unless_same (Some fault) t u h = absurd (cc h)
 
 pub going_on : {A B : Type 0} (r : Result A LineFault) (f : A → Result B LineFault) (b : B) → go_on r f ≡ Ok b →
@@ -84,7 +96,13 @@ pub after_grows : (s t : Played) (step : Step) → after_step s step ≡ Ok t �
 unfolding after_step
 after_grows s t step h =
     let on = going_on (stepped s step) (unless_barred (barred s step)) t h in
-    step_grows s t step (on.1 ∙ ap Ok (unless_same (barred s step) on.0 t on.2))
+    step_grows s t step (on.1 ∙ ap Ok (unless_same (barred s step) on.0 t on.2).1)
+
+not_barred : (s t : Played) (step : Step) → after_step s step ≡ Ok t → barred s step ≡ None
+unfolding after_step
+not_barred s t step h =
+    let on = going_on (stepped s step) (unless_barred (barred s step)) t h in
+    (unless_same (barred s step) on.0 t on.2).0
 
 -- ---- the losses of an act
 
@@ -102,7 +120,7 @@ losses_on : (p k : ℕ) (ks : List ℕ) (s t : Played) (r : Result Played LineFa
     fold (λ r k. go_on r (λ u. after_step u (step.Lose p k))) r ks ≡ Ok t → Grows (λ steps. steps ≡ map (step.Lose p) (k ∷ ks)) s t
 losses_on p k ks s t (Ok u) by more h =
     grows_on (λ steps. steps ≡ step.Lose p k ∷ []) (λ steps. steps ≡ map (step.Lose p) ks) (λ steps. steps ≡ map (step.Lose p) (k ∷ ks))
-    s u t (after_grows s u (step.Lose p k) by) (more u h) (λ a b _ here later. losses_of p k ks a b here later)
+    s u t (after_grows s u (step.Lose p k) by) (more u h) (λ a b _ _ here later. losses_of p k ks a b here later)
 losses_on p k ks s t (Err fault) by more h = absurd (losses_fail p ks fault t h)
 
 losses_grow : (p : ℕ) (ks : List ℕ) (s t : Played) → after_losses p s ks ≡ Ok t → Grows (λ steps. steps ≡ map (step.Lose p) ks) s t
@@ -112,16 +130,17 @@ losses_grow p (k ∷ ks) s t h = losses_on p k ks s t (after_step s (step.Lose p
 -- ---- the deed of a member
 
 -- a deed of one step
-abbrev IsOne : Rehearsal → ℕ → Act → List Step → Type 0
-IsOne w p act steps = (step : Step) × (step_of w p act ≡ Ok step) × (steps ≡ step ∷ [])
+abbrev IsOne : Played → ℕ → Act → List Step → Type 0
+IsOne s p act steps = (step : Step) × (step_of s.rehearsal p act ≡ Ok step) × (barred s step ≡ None) × (steps ≡ step ∷ [])
 
 one_grows : (s t : Played) (p : ℕ) (act : Act) → go_on (step_of s.rehearsal p act) (after_step s) ≡ Ok t →
-    Grows (IsOne s.rehearsal p act) s t
+    Grows (IsOne s p act) s t
 one_grows s t p act h =
     let on = going_on (step_of s.rehearsal p act) (after_step s) t h in
-    grows_more (λ steps. steps ≡ on.0 ∷ []) (IsOne s.rehearsal p act) s t (λ steps so. (on.0, on.1, so)) (after_grows s t on.0 on.2)
+    grows_more (λ steps. steps ≡ on.0 ∷ []) (IsOne s p act) s t
+    (λ steps so. (on.0, on.1, not_barred s t on.0 on.2, so)) (after_grows s t on.0 on.2)
 
-pub deed_grows : (s t : Played) (p : ℕ) (act : Act) → done s p act ≡ Ok t → Grows (IsDeed act s.rehearsal p) s t
+pub deed_grows : (s t : Played) (p : ℕ) (act : Act) → done s p act ≡ Ok t → Grows (IsDeed act s p) s t
 deed_grows s t p (LoseFrom set) h =
     let on = going_on (step_of s.rehearsal p (LoseFrom set)) (λ _. after_losses p s (waiting_from s.rehearsal p set)) t h in
     losses_grow p (waiting_from s.rehearsal p set) s t on.2
@@ -134,56 +153,56 @@ if_so true p t u h = (refl, cc h)
 if_so false p t u h = absurd (cc h)
 
 said_of : (s t : Played) (p : ℕ) (act : Act) (text : List ℕ) (step : Step) → step_of s.rehearsal p act ≡ Ok step →
-    is_stated (stated_text t.rehearsal step) text ≡ true → t.rehearsal ≡ behind s.rehearsal (step ∷ []) →
-    (steps : List Step) → steps ≡ step ∷ [] → IsSaid act text s.rehearsal p steps
-said_of s t p act text step is came at steps so = (step, is, ap (λ w. is_stated (stated_text w step) text) (sym at) ∙ came, so)
+    barred s step ≡ None → is_stated (stated_text t.rehearsal step) text ≡ true → Grows (λ steps. steps ≡ step ∷ []) s t →
+    Grows (IsSaid act text s p) s t
+said_of s t p act text step is free came g =
+    let at : t ≡ with_steps s (step ∷ []) = g.is ∙ ap (with_steps s) g.so in
+    let here = ap (λ (u : Played). is_stated (stated_text u.rehearsal step) text) (sym at) ∙ came in
+    grows_more (λ steps. steps ≡ step ∷ []) (IsSaid act text s p) s t (λ steps so. (step, is, free, here, so)) g
 
-said_grows : (s t : Played) (p : ℕ) (act : Act) (text : List ℕ) → done_so act text s p ≡ Ok t → Grows (IsSaid act text s.rehearsal p) s t
+said_grows : (s t : Played) (p : ℕ) (act : Act) (text : List ℕ) → done_so act text s p ≡ Ok t → Grows (IsSaid act text s p) s t
 unfolding done_so
 said_grows s t p act text h =
     let on = going_on (step_of s.rehearsal p act) (λ step. go_on (after_step s step) (unless_other p step text)) t h in
     let more = going_on (after_step s on.0) (unless_other p on.0 text) t on.2 in
     let so = if_so (is_stated (stated_text (more.0).rehearsal on.0) text) p more.0 t more.2 in
-    let grown : Grows (λ steps. steps ≡ on.0 ∷ []) s t =
-    subst (λ u. Grows (λ steps. steps ≡ on.0 ∷ []) s u) so.1 (after_grows s more.0 on.0 more.1) in
-    let came : is_stated (stated_text t.rehearsal on.0) text ≡ true =
-    ap (λ (u : Played). is_stated (stated_text u.rehearsal on.0) text) (sym so.1) ∙ so.0 in
-    let at : t.rehearsal ≡ behind s.rehearsal (on.0 ∷ []) = grown.is ∙ ap (behind s.rehearsal) grown.so in
-    grows_more (λ steps. steps ≡ on.0 ∷ []) (IsSaid act text s.rehearsal p) s t (said_of s t p act text on.0 on.1 came at) grown
+    said_of s t p act text on.0 on.1 (not_barred s more.0 on.0 more.1)
+    (ap (λ (u : Played). is_stated (stated_text u.rehearsal on.0) text) (sym so.1) ∙ so.0)
+    (subst (λ u. Grows (λ steps. steps ≡ on.0 ∷ []) s u) so.1 (after_grows s more.0 on.0 more.1))
 
 -- ---- each of several members
 
 -- what is done, and that it has these steps
-record Does (Deed : Rehearsal → ℕ → List Step → Type 0) (takes : Played → ℕ → Result Played LineFault) : Type 0 where
-  pub so : (s t : Played) (p : ℕ) → takes s p ≡ Ok t → Grows (Deed s.rehearsal p) s t
+record Does (Deed : Played → ℕ → List Step → Type 0) (takes : Played → ℕ → Result Played LineFault) : Type 0 where
+  pub so : (s t : Played) (p : ℕ) → takes s p ≡ Ok t → Grows (Deed s p) s t
 
 each_fails : (takes : Played → ℕ → Result Played LineFault) (ps : List ℕ) (fault : LineFault) (t : Played) →
     fold (λ r p. go_on r (λ u. takes u p)) (Err fault) ps ≡ Ok t → ⊥
 each_fails takes [] fault t h = absurd (cc h)
 each_fails takes (p ∷ ps) fault t h = each_fails takes ps fault t h
 
-module _ (Deed : Rehearsal → ℕ → List Step → Type 0) (takes : Played → ℕ → Result Played LineFault) (does : Does Deed takes) where
-  each_of : (p : ℕ) (ps : List ℕ) (s u : Played) (a b : List Step) → u.rehearsal ≡ behind s.rehearsal a → Deed s.rehearsal p a →
-      AreDeeds Deed u.rehearsal ps b → AreDeeds Deed s.rehearsal (p ∷ ps) (a ++ b)
-  each_of p ps s u a b at here later = (a, b, refl, here, subst (λ w. AreDeeds Deed w ps b) at later)
+module _ (Deed : Played → ℕ → List Step → Type 0) (takes : Played → ℕ → Result Played LineFault) (does : Does Deed takes) where
+  each_of : (p : ℕ) (ps : List ℕ) (s u : Played) (a b : List Step) → u ≡ with_steps s a → Deed s p a → AreDeeds Deed u ps b →
+      AreDeeds Deed s (p ∷ ps) (a ++ b)
+  each_of p ps s u a b at here later = (a, b, refl, here, subst (λ v. AreDeeds Deed v ps b) at later)
 
   each_on : (p : ℕ) (ps : List ℕ) (s t : Played) (r : Result Played LineFault) → takes s p ≡ r →
-      ((u : Played) → fold (λ r p. go_on r (λ v. takes v p)) (Ok u) ps ≡ Ok t → Grows (AreDeeds Deed u.rehearsal ps) u t) →
-      fold (λ r p. go_on r (λ v. takes v p)) r ps ≡ Ok t → Grows (AreDeeds Deed s.rehearsal (p ∷ ps)) s t
+      ((u : Played) → fold (λ r p. go_on r (λ v. takes v p)) (Ok u) ps ≡ Ok t → Grows (AreDeeds Deed u ps) u t) →
+      fold (λ r p. go_on r (λ v. takes v p)) r ps ≡ Ok t → Grows (AreDeeds Deed s (p ∷ ps)) s t
   each_on p ps s t (Ok u) by more h =
-      grows_on (Deed s.rehearsal p) (AreDeeds Deed u.rehearsal ps) (AreDeeds Deed s.rehearsal (p ∷ ps)) s u t
-      (does.so s u p by) (more u h) (λ a b at here later. each_of p ps s u a b at here later)
+      grows_on (Deed s p) (AreDeeds Deed u ps) (AreDeeds Deed s (p ∷ ps)) s u t
+      (does.so s u p by) (more u h) (λ a b at _ here later. each_of p ps s u a b at here later)
   each_on p ps s t (Err fault) by more h = absurd (each_fails takes ps fault t h)
 
   each_grows : (ps : List ℕ) (s t : Played) → fold (λ r p. go_on r (λ v. takes v p)) (Ok s) ps ≡ Ok t →
-      Grows (AreDeeds Deed s.rehearsal ps) s t
+      Grows (AreDeeds Deed s ps) s t
   each_grows [] s t h = subst (λ v. Grows (λ steps. steps ≡ []) s v) (cc h) (grows_not (λ steps. steps ≡ []) s refl)
   each_grows (p ∷ ps) s t h = each_on p ps s t (takes s p) refl (λ u. each_grows ps u t) h
 
 -- where all are named, one that has crashed does nothing
-unless_crashed : (Deed : Rehearsal → ℕ → List Step → Type 0) (takes : Played → ℕ → Result Played LineFault) → Does Deed takes →
+unless_crashed : (Deed : Played → ℕ → List Step → Type 0) (takes : Played → ℕ → Result Played LineFault) → Does Deed takes →
     (c : Bool) (s t : Played) (p : ℕ) → (if c then Ok s else takes s p) ≡ Ok t →
-    Grows (λ steps. IsUnless c (Deed s.rehearsal p steps) steps) s t
+    Grows (λ steps. IsUnless c (Deed s p steps) steps) s t
 unless_crashed Deed takes does true s t p h = subst (λ v. Grows (λ steps. steps ≡ []) s v) (cc h) (grows_not (λ steps. steps ≡ []) s refl)
 unless_crashed Deed takes does false s t p h = does.so s t p h
 
@@ -208,9 +227,9 @@ said_by_does who.All act text = record {
 }
 
 pub act_grows : (by : Who) (act : Act) (ps : List ℕ) (s t : Played) → done_by_each by act s ps ≡ Ok t →
-    Grows (AreDeeds (IsBy by (IsDeed act)) s.rehearsal ps) s t
+    Grows (AreDeeds (IsBy by (IsDeed act)) s ps) s t
 act_grows by act ps s t h = each_grows (IsBy by (IsDeed act)) (done_by by act) (done_does by act) ps s t h
 
 pub stated_grows : (by : Who) (act : Act) (text : List ℕ) (ps : List ℕ) (s t : Played) → done_so_by_each by act text s ps ≡ Ok t →
-    Grows (AreDeeds (IsBy by (IsSaid act text)) s.rehearsal ps) s t
+    Grows (AreDeeds (IsBy by (IsSaid act text)) s ps) s t
 stated_grows by act text ps s t h = each_grows (IsBy by (IsSaid act text)) (done_so_by by act text) (said_by_does by act text) ps s t h

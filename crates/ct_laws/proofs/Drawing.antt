@@ -107,7 +107,7 @@ goes_on : (quiet : Bool) (u v w : Rehearsal) → Goes quiet u v → Goes quiet v
 unfolding Goes
 goes_on quiet u v w g h =
     grows_on (AreQuiet quiet) (AreQuiet quiet) (AreQuiet quiet) (stage u) (stage v) (stage w) g h
-    (λ a b _ here later. all_quiet quiet a b here later)
+    (λ a b _ _ here later. all_quiet quiet a b here later)
 
 free_goes : (quiet : Bool) (w : Rehearsal) (step : Step) (o : Option Refusal) → cause w step ≡ o → IsQuiet quiet (Some step) →
     Goes quiet w (if is_none o then extended w step else w)
@@ -259,7 +259,7 @@ pub turn_begins : (o : WalkOptions) (number : ℕ) (w : Walk) → IsPrefix w.reh
 unfolding Goes
 turn_begins o number w =
     let g = (turned_on false o number w tt).goes in
-    (g.steps, sym (ap (λ (v : Rehearsal). v.steps) g.is))
+    (g.steps, sym (ap (λ (s : Played). s.rehearsal.steps) g.is))
 
 -- ---- the walk
 
@@ -290,7 +290,7 @@ steps_of : (quiet : Bool) (o : WalkOptions) (until : Option Goal) (g : Goes quie
     AreAllowed (empty (setting_of o.run) o.run.cells) (walked o until).steps × AreQuiet quiet (walked o until).steps
 unfolding Goes
 steps_of quiet o until g =
-    let same : g.steps ≡ (walked o until).steps = sym (ap (λ (w : Rehearsal). w.steps) g.is) in
+    let same : g.steps ≡ (walked o until).steps = sym (ap (λ (s : Played). s.rehearsal.steps) g.is) in
     (subst (λ l. AreAllowed (empty (setting_of o.run) o.run.cells) l) same g.allowed, subst (λ l. AreQuiet quiet l) same g.so)
 
 pub walk_allowed : (o : WalkOptions) (until : Option Goal) → AreAllowed (empty (setting_of o.run) o.run.cells) (walked o until).steps
@@ -307,7 +307,8 @@ unfolding driven Goes
 only_asked o w p steps nay is =
     let step = tries w.rehearsal p (receives_at o w p) (suspects o w p) in
     let g = try_goes true w.rehearsal step (tries_no w.rehearsal p (receives_at o w p) (suspects o w p) nay) in
-    let same : w.rehearsal.steps ++ g.steps ≡ w.rehearsal.steps ++ steps = ap (λ (v : Rehearsal). v.steps) (sym g.is ∙ is) in
+    let same : w.rehearsal.steps ++ g.steps ≡ w.rehearsal.steps ++ steps =
+    ap (λ (s : Played). s.rehearsal.steps) (sym g.is) ∙ ap (λ (v : Rehearsal). v.steps) is in
     subst (λ l. HaveNoSuspicion l) (append_cancel_left w.rehearsal.steps g.steps steps same) g.so
 
 pub says_so : (o : WalkOptions) (w : Walk) (p : ℕ) → answer (question w.rehearsal p) (slice_get w.detectors (p - 1)) ≡ true →

@@ -36,3 +36,8 @@ none_pass w = sym (nothing_behind w)
 pub all_pass : (w : Rehearsal) (steps : List Step) → fold (λ v step. after_try v (Some step)) w steps ≡ extended_by w (passed w steps)
 all_pass w [] = none_pass w
 all_pass w (step ∷ steps) = all_pass (after_try w (Some step)) steps ∙ sym (first_passes w (Some step) steps)
+
+-- the one that is tried, if any
+pub tried_passes : (w : Rehearsal) (o : Option Step) → after_try w o ≡ extended_by w (passed w (option_to_list o))
+tried_passes w None = none_pass w
+tried_passes w (Some step) = one_passes w step

@@ -1,11 +1,14 @@
 -- The places of lines.
-use Rattle.std.proofs.Common.{arith}
-use Rattle.std.proofs.Common.{◌≡◌, ℕ, ◌+◌, Bool, true, List, [], ◌∷◌, refl, ap, sym, ◌∙◌, subst}
+use Rattle.std.proofs.Common.{◌≡◌, ℕ, ◌+◌, Bool, true, false, List, [], ◌∷◌, length, refl, ap, sym, ◌∙◌, subst, arith, length-append}
+use Rattle.std.proofs.lemmas.Bool.Decides.{nat_tests}
+use Rattle.std.proofs.lemmas.List.{nil_from_length}
 use Rattle.std.specs.List.{list_all}
-use Rattle.std.specs.Prelude.{find, not, if◌then◌else◌, Option, Some, None, Result, Ok, Err, is_some}
+use Rattle.std.specs.Prelude.{◌&&◌, find, not, if◌then◌else◌, Option, Some, None, Result, Ok, Err, is_some}
+use Rattle.ct_names.proofs.Lists.{contrary}
 use Rattle.ct_model.specs.Rehearsal.{Rehearsal, empty}
 use Rattle.ct_model.specs.Setting.{Setting}
 use Rattle.ct_model.specs.declared.step.Step.{Step}
+use Rattle.ct_grammar.specs.Sides.{whole}
 use Rattle.ct_grammar.specs.Texts.{lines_of}
 use Rattle.ct_grammar.specs.declared.goal.Goal.{Goal}
 use Rattle.ct_grammar.specs.declared.line.Line.{Line}
@@ -16,8 +19,8 @@ use Rattle.ct_grammar.specs.declared.term.Term.{Term}
 use Rattle.ct_grammar.specs.declared.who.Who.{Who}
 use Rattle.ct_play.specs.Acting.{go_on}
 use Rattle.ct_play.specs.Expecting.{all_known, expected, expected_of, unless_unmet, unmet}
-use Rattle.ct_play.specs.Goals.{is_met, shows}
-use Rattle.ct_play.specs.Played.{Played}
+use Rattle.ct_play.specs.Goals.{is_met, shows, uncut}
+use Rattle.ct_play.specs.Played.{Played, with_record}
 use Rattle.ct_play.specs.Playing.{played}
 use Rattle.ct_play.specs.Turning.{after_round, after_rounds, is_still, reached, rested, settled, turned}
 use Rattle.ct_play.specs.Who.{known, named, stranger, unless_strange}
@@ -30,193 +33,215 @@ use Rattle.ct_judging.specs.Standing.{Standing, given_in, headed, made_of, made_
 use Rattle.ct_judging.specs.Telling.{Explained, told, told_if}
 use Rattle.ct_judging.specs.declared.heading.Heading.{Heading}
 use Rattle.ct_judging.specs.declared.misread.Misread.{Misread}
-use Rattle.ct_laws.specs.Places.{AreAllowed, AreOf, ArePlaces, EachIsAllowed, HasPlaces, IsLine, IsPlay, IsShown, behind, joined}
-use Rattle.ct_laws.proofs.Deeds.{Grows, act_grows, allowed_both, both_behind, going_on, grows_more, nothing_behind, stated_grows, grows_not}
-use Rattle.ct_laws.proofs.Expecting.Showing.{shows_so}
+use Rattle.ct_laws.specs.Places.{AreAllowed, AreDeeds, ArePlaces, AreSettling, AreUntil, EachIsAllowed, HasPlaces, IsLine, IsPlay, IsTurn}
+use Rattle.ct_laws.specs.Places.{IsTurnBefore, behind, joined, rounds, sides_behind, stage_behind, with_steps}
+use Rattle.ct_laws.specs.Showing.{AreMet}
+use Rattle.ct_laws.proofs.Deeds.{Grows, GrowsIf, act_grows, allowed_both, both_behind, going_on, grows_more, grows_not, grown_whole}
+use Rattle.ct_laws.proofs.Deeds.{nothing_behind, stated_grows, whole_behind}
+use Rattle.ct_laws.proofs.Expecting.Showing.{shows_so, so_shows}
 use Rattle.ct_laws.proofs.Silent.{asked_same, ends_at, if_free, plainly, unless_same}
 use Rattle.ct_laws.proofs.Taking.{Makes}
-use Rattle.ct_laws.proofs.Turns.{last_grows, rounds_grow}
+use Rattle.ct_laws.proofs.Turns.{all_grow, in_turns, rounds_grow, turns_grow}
 
 -- ---- what is played
 
 unless_named : (ps qs : List ℕ) (o : Option ℕ) → unless_strange ps o ≡ Ok qs → ps ≡ qs
-unless_named ps qs o h = grind arith
+unless_named ps qs None h = cc h
+unless_named ps qs (Some p) h = absurd (cc h)
 
 known_named : (n : ℕ) (by : Who) (ps : List ℕ) → known n by ≡ Ok ps → named n by ≡ ps
 unfolding known
 known_named n by ps h = unless_named (named n by) ps (stranger n (named n by)) h
 
--- steps of these, who are those that the line names
-of_named : (n : ℕ) (by : Who) (ps : List ℕ) (s t : Played) → known n by ≡ Ok ps → Grows (AreOf ps) s t → Grows (AreOf (named n by)) s t
-of_named n by ps s t h g = subst (λ qs. Grows (AreOf qs) s t) (sym (known_named n by ps h)) g
-
-turned_grows : (s t : Played) (play : Play) (by : Who) (n : ℕ) → turned s play by n ≡ Ok t →
-    Grows (AreOf (named s.rehearsal.setting.members by)) s t
-unfolding turned
-turned_grows s t play by n h =
-    let on = going_on (known s.rehearsal.setting.members by) (λ ps. Ok (after_rounds play ps s n)) t h in
-    let is : after_rounds play on.0 s n ≡ t = cc on.2 in
-    of_named s.rehearsal.setting.members by on.0 s t on.1 (subst (λ u. Grows (AreOf on.0) s u) is (rounds_grow play on.0 s n))
-
-still_same : (c : Bool) (t u : Played) → (if c then Ok t else Err Restless) ≡ Ok u → t ≡ u
-still_same c t u h = grind arith
-
-rested_grows : (s t : Played) (play : Play) (ps : List ℕ) → rested play ps s ≡ Ok t → Grows (AreOf ps) s t
-unfolding rested
-rested_grows s t play ps h =
-    let before = after_rounds play ps s 9999 in
-    let is : after_round play ps before ≡ t =
-    still_same (is_still before (after_round play ps before)) (after_round play ps before) t h in
-    subst (λ u. Grows (AreOf ps) s u) is (last_grows play ps s 9999)
-
-settled_grows : (s t : Played) (play : Play) (by : Who) → settled s play by ≡ Ok t →
-    Grows (AreOf (named s.rehearsal.setting.members by)) s t
-unfolding settled
-settled_grows s t play by h =
-    let on = going_on (known s.rehearsal.setting.members by) (λ ps. rested play ps s) t h in
-    of_named s.rehearsal.setting.members by on.0 s t on.1 (rested_grows s t play on.0 on.2)
+known_on : (n : ℕ) (by : Who) (f : List ℕ → Result Played LineFault) (t : Played) → go_on (known n by) f ≡ Ok t →
+    f (named n by) ≡ Ok t
+known_on n by f t h = let on = going_on (known n by) f t h in ap f (known_named n by on.0 on.1) ∙ on.2
 
 -- ---- what is shown
 
+met_if : (c : Bool) (t : Term) (rest : Bool) (o : Option Term) → (if not c then Some t else o) ≡ None → (o ≡ None → rest ≡ true) →
+    (c && rest) ≡ true
+met_if true t rest o h more = more h
+met_if false t rest o h more = absurd (cc h)
+
 all_met : (s : Played) (goal : List Term) → find (λ t. not (is_met s t)) goal ≡ None → list_all (is_met s) goal ≡ true
 all_met s [] h = refl
-all_met s (t ∷ goal) h = let more = all_met s goal in grind arith
+all_met s (t ∷ goal) h =
+    met_if (is_met s t) t (list_all (is_met s) goal) (find (λ t. not (is_met s t)) goal) h (all_met s goal)
 
 none_unmet : (s t : Played) (o : Option Term) → unless_unmet s o ≡ Ok t → o ≡ None
-none_unmet s t o h = grind arith
+none_unmet s t None h = refl
+none_unmet s t (Some term) h = absurd (cc h)
 
-expected_shows : (s t : Played) (goal : Goal) → expected_of s goal ≡ Ok t → EachIsAllowed s.rehearsal → IsShown s.rehearsal goal
+expected_shows : (s t : Played) (goal : Goal) → expected_of s goal ≡ Ok t → EachIsAllowed s.rehearsal → AreMet s goal
 unfolding unmet shows
-expected_shows s t goal h whole = (s.sides, shows_so goal s whole (all_met s goal (none_unmet s t (unmet s goal) h)))
+expected_shows s t goal h whole = shows_so goal s whole (all_met s goal (none_unmet s t (unmet s goal) h))
 
--- and so is one with more steps
-whole_behind : (w : Rehearsal) (steps : List Step) → EachIsAllowed w → AreAllowed w steps → EachIsAllowed (behind w steps)
-whole_behind w steps whole more = allowed_both w.steps steps (empty w.setting w.cells) whole more
+-- ---- turns
 
-until_shown : (s t : Played) (by : Who) (goal : Goal) (ps : List ℕ) → (EachIsAllowed t.rehearsal → IsShown t.rehearsal goal) →
-    Grows (AreOf ps) s t →
-    Grows (λ steps. EachIsAllowed s.rehearsal → AreOf ps steps × IsShown (behind s.rehearsal steps) goal) s t
-until_shown s t by goal ps shown g = record {
-  steps = g.steps;
-  is = g.is;
-  allowed = g.allowed;
-  so = λ whole. (
-    g.so,
-    subst (λ w. IsShown w goal) g.is
-        (shown (subst EachIsAllowed (sym g.is) (whole_behind s.rehearsal g.steps whole g.allowed))),
-  );
-}
+turned_grows : (s t : Played) (by : Who) (n : ℕ) (set : List ℕ) → turned s (Turns by n set) by n ≡ Ok t →
+    GrowsIf (IsPlay s (Turns by n set)) s t
+unfolding turned
+turned_grows s t by n set h =
+    let ps = named s.rehearsal.setting.members by in
+    let is = known_on s.rehearsal.setting.members by (λ qs. Ok (after_rounds (Turns by n set) qs s n)) t h in
+    let same : after_rounds (Turns by n set) ps s n ≡ t = cc is in
+    subst (λ u. GrowsIf (IsPlay s (Turns by n set)) s u) same (rounds_grow (Turns by n set) (λ u. refl) ps s n)
 
-reached_grows : (s t : Played) (play : Play) (by : Who) (goal : Goal) → reached s play by goal ≡ Ok t →
-    Grows (λ steps. EachIsAllowed s.rehearsal →
-    AreOf (named s.rehearsal.setting.members by) steps × IsShown (behind s.rehearsal steps) goal) s t
+still_same : (c : Bool) (t u : Played) → (if c then Ok t else Err Restless) ≡ Ok u → (c ≡ true) × (t ≡ u)
+still_same true t u h = (refl, cc h)
+still_same false t u h = absurd (cc h)
+
+none_more : (s t : Played) (steps : List Step) → t ≡ with_steps s steps → is_still s t ≡ true → steps ≡ []
+none_more s t steps is still =
+    let same : length t.rehearsal.steps ≡ length s.rehearsal.steps = grind (arith, nat_tests) in
+    let all : length t.rehearsal.steps ≡ length s.rehearsal.steps + length steps =
+    ap (λ (u : Played). length u.rehearsal.steps) is ∙ length-append s.rehearsal.steps steps in
+    nil_from_length steps (omega (arith, same, all))
+
+settled_by : (s t : Played) (by : Who) (set ps : List ℕ) → rested (Settle by set) ps s ≡ Ok t → GrowsIf (AreSettling set s ps) s t
+unfolding rested
+settled_by s t by set ps h =
+    let before = after_rounds (Settle by set) ps s 9999 in
+    let last = after_round (Settle by set) ps before in
+    let still = still_same (is_still before last) last t h in
+    let g = rounds_grow (Settle by set) (λ u. refl) ps s 9999 in
+    let k = all_grow (Settle by set) (λ u. refl) ps before in
+    let none : k.steps ≡ [] = none_more before last k.steps k.is still.0 in
+    record {
+      steps = g.steps;
+      is = sym still.1 ∙ k.is ∙ ap (with_steps before) none ∙ ap (with_record before) (nothing_behind before.rehearsal) ∙ g.is;
+      allowed = g.allowed;
+      so = λ whole. (
+        9999,
+        omega arith,
+        g.so whole,
+        subst (λ v. AreDeeds (IsTurn set) v ps []) g.is
+            (subst (AreDeeds (IsTurn set) before ps) none (k.so (grown_whole s before g.steps g.is g.allowed whole))),
+      );
+    }
+
+settled_grows : (s t : Played) (by : Who) (set : List ℕ) → settled s (Settle by set) by ≡ Ok t → GrowsIf (IsPlay s (Settle by set)) s t
+unfolding settled
+settled_grows s t by set h =
+    let n = s.rehearsal.setting.members in
+    settled_by s t by set (named n by) (known_on n by (λ ps. rested (Settle by set) ps s) t h)
+
+reached_by : (s t : Played) (by : Who) (set : List ℕ) (goal : Goal) (ps : List ℕ) →
+    expected_of (after_rounds (Until by set goal) ps s 10000) goal ≡ Ok t → GrowsIf (AreUntil goal set s ps) s t
+reached_by s t by set goal ps h =
+    let play = Until by set goal in
+    let end = after_rounds play ps s 10000 in
+    let before : (u : Played) → EachIsAllowed u.rehearsal → shows goal u ≡ false → AreMet u goal → ⊥ =
+    λ u whole not met. contrary (shows goal u) (so_shows goal u whole met) not in
+    let g = turns_grow play (IsTurnBefore goal set) (λ u p steps whole not here. (before u whole not, here)) (rounds 10000 ps) s in
+    let is : end ≡ with_steps s g.steps = in_turns play ps s 10000 ∙ g.is in
+    record {
+      steps = g.steps;
+      is = unless_same end t (unmet end goal) h ∙ is;
+      allowed = g.allowed;
+      so = λ whole. let turns = g.so whole in (
+        turns.0,
+        turns.1,
+        turns.3,
+        subst (λ v. AreMet v goal) is (expected_shows end t goal h (grown_whole s end g.steps is g.allowed whole)),
+      );
+    }
+
+reached_grows : (s t : Played) (by : Who) (set : List ℕ) (goal : Goal) → reached s (Until by set goal) by goal ≡ Ok t →
+    GrowsIf (IsPlay s (Until by set goal)) s t
 unfolding reached
-reached_grows s t play by goal h =
-    let rounds : List ℕ → Played = λ ps. after_rounds play ps s 10000 in
-    let on = going_on (known s.rehearsal.setting.members by)
-    (λ ps. go_on (all_known s.rehearsal.setting.members goal) (λ _. expected_of (rounds ps) goal)) t h in
-    let more = going_on (all_known s.rehearsal.setting.members goal) (λ _. expected_of (rounds on.0) goal) t on.2 in
-    let is : t ≡ rounds on.0 = unless_same (rounds on.0) t (unmet (rounds on.0) goal) more.2 in
-    until_shown s t by goal (named s.rehearsal.setting.members by)
-    (subst (λ (u : Played). EachIsAllowed u.rehearsal → IsShown u.rehearsal goal) (sym is) (expected_shows (rounds on.0) t goal more.2))
-    (of_named s.rehearsal.setting.members by on.0 s t on.1
-    (subst (λ u. Grows (AreOf on.0) s u) (sym is) (rounds_grow play on.0 s 10000)))
+reached_grows s t by set goal h =
+    let n = s.rehearsal.setting.members in
+    let end : List ℕ → Played = λ ps. after_rounds (Until by set goal) ps s 10000 in
+    let on = known_on n by (λ ps. go_on (all_known n goal) (λ _. expected_of (end ps) goal)) t h in
+    reached_by s t by set goal (named n by) (going_on (all_known n goal) (λ _. expected_of (end (named n by)) goal) t on).2
 
-expects_grows : (s t : Played) (goal : Goal) → expected s goal ≡ Ok t →
-    Grows (λ steps. EachIsAllowed s.rehearsal → (steps ≡ []) × IsShown s.rehearsal goal) s t
-unfolding expected
-expects_grows s t goal h =
-    let on = going_on (all_known s.rehearsal.setting.members goal) (λ _. expected_of s goal) t h in
-    let same : t ≡ s = unless_same s t (unmet s goal) on.2 in
-    subst (λ u. Grows (λ steps. EachIsAllowed s.rehearsal → (steps ≡ []) × IsShown s.rehearsal goal) s u) (sym same)
-    (grows_not (λ steps. EachIsAllowed s.rehearsal → (steps ≡ []) × IsShown s.rehearsal goal) s
-    (λ whole. (refl, expected_shows s t goal on.2 whole)))
+-- ---- any line
 
 -- nothing joined the record
-grows_still : (s t : Played) → t.rehearsal ≡ s.rehearsal → Grows (λ steps. steps ≡ []) s t
-grows_still s t same = record { steps = []; is = same ∙ sym (nothing_behind s.rehearsal); allowed = tt; so = refl }
+grows_same : (P : List Step → Type 0) (s t : Played) → t ≡ s → (EachIsAllowed s.rehearsal → P []) → GrowsIf P s t
+grows_same P s t same so = subst (GrowsIf P s) (sym same) (grows_not (λ steps. EachIsAllowed s.rehearsal → P steps) s so)
+
+expects_grows : (s t : Played) (goal : Goal) → expected s goal ≡ Ok t → GrowsIf (IsPlay s (Expect goal)) s t
+unfolding expected
+expects_grows s t goal h =
+    let on = (going_on (all_known s.rehearsal.setting.members goal) (λ _. expected_of s goal) t h).2 in
+    grows_same (IsPlay s (Expect goal)) s t (unless_same s t (unmet s goal) on) (λ whole. (refl, expected_shows s t goal on whole))
 
 -- whatever the record is
-anyhow : (P : List Step → Type 0) (s t : Played) → Grows P s t → Grows (λ steps. EachIsAllowed s.rehearsal → P steps) s t
+anyhow : (P : List Step → Type 0) (s t : Played) → Grows P s t → GrowsIf P s t
 anyhow P s t g = grows_more P (λ steps. EachIsAllowed s.rehearsal → P steps) s t (λ steps h whole. h) g
 
+-- from the stage whose sides are those behind the line
 play_grows : (s t : Played) (play : Play) → played s play ≡ Ok t →
-    Grows (λ steps. EachIsAllowed s.rehearsal → IsPlay s.rehearsal play steps) s t
+    GrowsIf (IsPlay s play) (record s { sides = sides_behind {E = Misread} s.sides (Ok (Plays play)) }) t
 play_grows s t (Act by act) h = anyhow _ s t (act_grows by act (named s.rehearsal.setting.members by) s t h)
 play_grows s t (Stated by act text) h = anyhow _ s t (stated_grows by act text (named s.rehearsal.setting.members by) s t h)
-play_grows s t (Turns by n set) h = anyhow _ s t (turned_grows s t (Turns by n set) by n h)
-play_grows s t (Settle by set) h = anyhow _ s t (settled_grows s t (Settle by set) by h)
-play_grows s t (Until by set goal) h = reached_grows s t (Until by set goal) by goal h
-play_grows s t (Cut sides) h = anyhow _ s t (grows_still s t (cc h))
-play_grows s t Heal h = anyhow _ s t (grows_still s t (cc h))
+play_grows s t (Turns by n set) h = turned_grows s t by n set h
+play_grows s t (Settle by set) h = settled_grows s t by set h
+play_grows s t (Until by set goal) h = reached_grows s t by set goal h
+play_grows s t (Cut sides) h = grows_same _ (record s { sides = sides }) t (cc h) (λ _. refl)
+play_grows s t Heal h = grows_same _ (record s { sides = whole }) t (cc h) (λ _. refl)
 play_grows s t (Expect goal) h = expects_grows s t goal h
-play_grows s t (Ask question) h = anyhow _ s t (grows_still s t (ap (λ (u : Played). u.rehearsal) (asked_same s t question h)))
+play_grows s t (Ask question) h = grows_same _ s t (asked_same s t question h) (λ _. refl)
 
 -- ---- where a line begins
 
--- the record there, where the last one is w
-abbrev from : Rehearsal → Option Played → Rehearsal
-from w None = empty w.setting w.cells
-from w (Some p) = p.rehearsal
+-- the stage there, where the last record is w
+abbrev at : Rehearsal → Option Played → Played
+at w None = uncut (empty w.setting w.cells)
+at w (Some p) = p
 
-record IsPlaced (w : Rehearsal) (s u : Standing) (Has : Rehearsal → List Step → Type 0) : Type 0 where
+record IsPlaced (w : Rehearsal) (s u : Standing) (line : Result Line Misread) : Type 0 where
   pub own : List Step
-  pub is : from w u.played ≡ behind (from w s.played) own
-  pub allowed : AreAllowed (from w s.played) own
-  pub so : Has (from w s.played) own
+  pub is : at w u.played ≡ stage_behind (at w s.played) line own
+  pub allowed : AreAllowed (at w s.played).rehearsal own
+  pub so : EachIsAllowed (at w s.played).rehearsal → IsLine (at w s.played) line own
 
 made_empty : (h : Heading) (o : Option ℕ) (p : Played) (w : Rehearsal) → made_of h o ≡ Ok p → p.rehearsal.setting ≡ w.setting →
-    p.rehearsal.cells ≡ w.cells → empty w.setting w.cells ≡ p.rehearsal
+    p.rehearsal.cells ≡ w.cells → uncut (empty w.setting w.cells) ≡ p
 made_empty h None p w is setting cells = absurd (cc)
 made_empty h (Some n) p w is setting cells =
     let same : p ≡ made_with h n = sym (cc is) in
-    ap (λ (s : Setting). empty s w.cells) (sym setting) ∙ ap (λ c. empty p.rehearsal.setting c) (sym cells)
-    ∙ subst (λ (q : Played). empty q.rehearsal.setting q.rehearsal.cells ≡ q.rehearsal) (sym same) refl
+    ap (λ (s : Setting). uncut (empty s w.cells)) (sym setting) ∙ ap (λ c. uncut (empty p.rehearsal.setting c)) (sym cells)
+    ∙ subst (λ (q : Played). uncut (empty q.rehearsal.setting q.rehearsal.cells) ≡ q) (sym same) refl
 
 begins : (h : Heading) (o : Option Played) (p : Played) (w : Rehearsal) → played_or_made h o ≡ Ok p → p.rehearsal.setting ≡ w.setting →
-    p.rehearsal.cells ≡ w.cells → from w o ≡ p.rehearsal
+    p.rehearsal.cells ≡ w.cells → at w o ≡ p
 begins h None p w is setting cells = made_empty h h.group p w is setting cells
-begins h (Some q) p w is setting cells =
-    let same : q ≡ p = cc is in
-    ap (λ (r : Played). r.rehearsal) same
+begins h (Some q) p w is setting cells = cc is
 
 in_placed : (w : Rehearsal) (s u : Standing) (play : Play) (p q : Played) (rest : List Step) → played_of s ≡ Ok p →
-    played p play ≡ Ok q → u ≡ record s { played = Some q } → behind (from w u.played) rest ≡ w →
-    IsPlaced w s u (λ v steps. EachIsAllowed v → IsPlay v play steps)
+    played p play ≡ Ok q → u ≡ record s { played = Some q } → behind (at w u.played).rehearsal rest ≡ w →
+    IsPlaced w s u (Ok (Plays play))
 unfolding played_of
-in_placed w s u play p q rest of by at end =
+in_placed w s u play p q rest of by now end =
     let g = play_grows p q play by in
-    let from_u : from w u.played ≡ q.rehearsal = ap (λ (v : Standing). from w v.played) at in
-    let last : behind q.rehearsal rest ≡ w = ap (λ v. behind v rest) (sym from_u) ∙ end in
+    let at_u : at w u.played ≡ q = ap (λ (v : Standing). at w v.played) now in
+    let last : behind q.rehearsal rest ≡ w = ap (λ (v : Played). behind v.rehearsal rest) (sym at_u) ∙ end in
     let setting : p.rehearsal.setting ≡ w.setting =
-    sym (ap (λ (v : Rehearsal). v.setting) g.is) ∙ ap (λ (v : Rehearsal). v.setting) last in
-    let cells : p.rehearsal.cells ≡ w.cells = sym (ap (λ (v : Rehearsal). v.cells) g.is) ∙ ap (λ (v : Rehearsal). v.cells) last in
-    let from_s : from w s.played ≡ p.rehearsal = begins s.heading s.played p w of setting cells in
+    sym (ap (λ (v : Played). v.rehearsal.setting) g.is) ∙ ap (λ (v : Rehearsal). v.setting) last in
+    let cells : p.rehearsal.cells ≡ w.cells =
+    sym (ap (λ (v : Played). v.rehearsal.cells) g.is) ∙ ap (λ (v : Rehearsal). v.cells) last in
+    let at_s : at w s.played ≡ p = begins s.heading s.played p w of setting cells in
     record {
       own = g.steps;
-      is = from_u ∙ g.is ∙ ap (λ v. behind v g.steps) (sym from_s);
-      allowed = subst (λ v. AreAllowed v g.steps) (sym from_s) g.allowed;
-      so = subst (λ v. EachIsAllowed v → IsPlay v play g.steps) (sym from_s) g.so;
+      is = at_u ∙ g.is ∙ ap (λ v. stage_behind {E = Misread} v (Ok (Plays play)) g.steps) (sym at_s);
+      allowed = subst (λ (v : Played). AreAllowed v.rehearsal g.steps) (sym at_s) g.allowed;
+      so = subst (λ (v : Played). EachIsAllowed v.rehearsal → IsPlay v play g.steps) (sym at_s) g.so;
     }
 
-still_placed : (w : Rehearsal) (s u : Standing) → u.played ≡ s.played → IsPlaced w s u (λ v steps. EachIsAllowed v → steps ≡ [])
-still_placed w s u same = record {
-  own = [];
-  is = ap (from w) same ∙ sym (nothing_behind (from w s.played));
-  allowed = tt;
-  so = λ whole. refl;
-}
-
 in_world_on : (w : Rehearsal) (s u : Standing) (play : Play) (p : Played) (rest : List Step) (r : Result Played LineFault) →
-    played_of s ≡ Ok p → played p play ≡ r → in_world s r ≡ Ok u → behind (from w u.played) rest ≡ w →
-    IsPlaced w s u (λ v steps. EachIsAllowed v → IsPlay v play steps)
+    played_of s ≡ Ok p → played p play ≡ r → in_world s r ≡ Ok u → behind (at w u.played).rehearsal rest ≡ w →
+    IsPlaced w s u (Ok (Plays play))
 in_world_on w s u play p rest (Ok q) of by h end =
     let same : record s { played = Some q } ≡ u = cc h in
     in_placed w s u play p q rest of by (sym same) end
 in_world_on w s u play p rest (Err fault) of by h end = absurd (cc h)
 
 play_placed : (w : Rehearsal) (s u : Standing) (play : Play) (rest : List Step) (r : Result Played LineFault) → played_of s ≡ r →
-    after_play s play r ≡ Ok u → behind (from w u.played) rest ≡ w → IsPlaced w s u (λ v steps. EachIsAllowed v → IsPlay v play steps)
+    after_play s play r ≡ Ok u → behind (at w u.played).rehearsal rest ≡ w → IsPlaced w s u (Ok (Plays play))
 play_placed w s u play rest (Ok p) of h end = in_world_on w s u play p rest (played p play) of refl h end
 play_placed w s u play rest (Err fault) of h end = absurd (cc h)
 
@@ -225,14 +250,18 @@ given_still s u None h = absurd (cc h)
 given_still s u (Some heading) h =
     ap (λ (v : Standing). v.played) (if_free (is_some s.played) (record s { heading = heading }) u h).1
 
+still : (w : Rehearsal) (s u : Standing) → u.played ≡ s.played → at w u.played ≡ with_steps (at w s.played) []
+still w s u same = ap (at w) same ∙ ap (with_record (at w s.played)) (sym (nothing_behind (at w s.played).rehearsal))
+
 line_placed : (w : Rehearsal) (s u : Standing) (line : Line) (rest : List Step) → taken s line ≡ Ok u →
-    behind (from w u.played) rest ≡ w → IsPlaced w s u (λ v steps. EachIsAllowed v → IsLine {E = Misread} v (Ok line) steps)
-line_placed w s u Blank rest h end = still_placed w s u (cc h)
-line_placed w s u (Given given) rest h end = still_placed w s u (given_still s u (given_in s.heading given) h)
+    behind (at w u.played).rehearsal rest ≡ w → IsPlaced w s u (Ok line)
+line_placed w s u Blank rest h end = record { own = []; is = still w s u (cc h); allowed = tt; so = λ whole. refl }
+line_placed w s u (Given given) rest h end =
+    record { own = []; is = still w s u (given_still s u (given_in s.heading given) h); allowed = tt; so = λ whole. refl }
 line_placed w s u (Plays play) rest h end = play_placed w s u play rest (played_of s) refl h end
 
 told_placed : (w : Rehearsal) (s u : Standing) (r : Result Line Misread) (rest : List Step) → told_if s r ≡ Ok u →
-    behind (from w u.played) rest ≡ w → IsPlaced w s u (λ v steps. EachIsAllowed v → IsLine v r steps)
+    behind (at w u.played).rehearsal rest ≡ w → IsPlaced w s u r
 told_placed w s u (Ok line) rest h end = line_placed w s u line rest (plainly s u line (taken s line) h) end
 told_placed w s u (Err misread) rest h end = absurd (cc h)
 
@@ -240,11 +269,11 @@ told_placed w s u (Err misread) rest h end = absurd (cc h)
 
 record AreAll (w : Rehearsal) (s : Standing) (lines : List (List ℕ)) : Type 0 where
   pub places : List (List Step)
-  pub is : behind (from w s.played) (joined places) ≡ w
-  pub allowed : AreAllowed (from w s.played) (joined places)
-  pub are : EachIsAllowed (from w s.played) → ArePlaces (from w s.played) lines places
+  pub is : behind (at w s.played).rehearsal (joined places) ≡ w
+  pub allowed : AreAllowed (at w s.played).rehearsal (joined places)
+  pub are : EachIsAllowed (at w s.played).rehearsal → ArePlaces (at w s.played) lines places
 
-ended_with : (h : Heading) (o : Option Played) (w : Rehearsal) → record_in (played_or_made h o) ≡ Ok w → behind (from w o) [] ≡ w
+ended_with : (h : Heading) (o : Option Played) (w : Rehearsal) → record_in (played_or_made h o) ≡ Ok w → behind (at w o).rehearsal [] ≡ w
 ended_with h (Some p) w is =
     let same : p.rehearsal ≡ w = cc is in
     nothing_behind p.rehearsal ∙ same
@@ -260,16 +289,17 @@ one_placed : (w : Rehearsal) (s u : Standing) (line : List ℕ) (lines : List (L
     AreAll w u lines → AreAll w s (line ∷ lines)
 one_placed w s u line lines h more =
     let here = told_placed w s u (line_in line) (joined more.places) h more.is in
+    let before = (at w s.played).rehearsal in
+    let on : (at w u.played).rehearsal ≡ behind before here.own = ap (λ (v : Played). v.rehearsal) here.is in
     record {
       places = here.own ∷ more.places;
-      is = sym (both_behind (from w s.played) here.own (joined more.places))
-          ∙ ap (λ v. behind v (joined more.places)) (sym here.is) ∙ more.is;
-      allowed = allowed_both here.own (joined more.places) (from w s.played) here.allowed
-          (subst (λ v. AreAllowed v (joined more.places)) here.is more.allowed);
+      is = sym (both_behind before here.own (joined more.places)) ∙ ap (λ v. behind v (joined more.places)) (sym on) ∙ more.is;
+      allowed = allowed_both here.own (joined more.places) before here.allowed
+          (subst (λ v. AreAllowed v (joined more.places)) on more.allowed);
       are = λ whole. (
         here.so whole,
         subst (λ v. ArePlaces v lines more.places) here.is
-            (more.are (subst EachIsAllowed (sym here.is) (whole_behind (from w s.played) here.own whole here.allowed))),
+            (more.are (whole_behind before (at w u.played).rehearsal here.own on here.allowed whole)),
       );
     }
 

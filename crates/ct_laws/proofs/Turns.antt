@@ -1,24 +1,27 @@
 -- The steps of turns.
-use Rattle.std.proofs.Common.{◌≡◌, inl, inr, ℕ, zero, suc, Bool, List, [], ◌∷◌, ◌++◌, refl, sym, subst}
-use Rattle.std.specs.Prelude.{if◌then◌else◌, Option, Some, None, find, is_none, option_map, ⊤}
+use Rattle.std.proofs.Common.{◌≡◌, ℕ, zero, suc, Bool, true, false, List, [], ◌∷◌, ◌++◌, refl, ap, sym, ◌∙◌, subst}
+use Rattle.std.proofs.lemmas.Bool.{cond_both}
+use Rattle.std.proofs.lemmas.List.Sums.{fold-append}
+use Rattle.std.specs.Prelude.{if◌then◌else◌, Option, Some, None, find, fold, is_none, option_map, ⊤}
 use Rattle.std.specs.Option.{option_to_list}
-use Rattle.ct_names.specs.Membership.{IsIn}
+use Rattle.ct_names.specs.Prefix.{IsPrefix}
 use Rattle.ct_names.specs.declared.refusal.Refusal.{Refusal}
+use Rattle.ct_names.proofs.Lists.{contrary}
 use Rattle.ct_model.specs.Actor.{actor}
 use Rattle.ct_model.specs.Cause.{cause}
-use Rattle.ct_model.specs.Rehearsal.{Rehearsal, extended}
+use Rattle.ct_model.specs.Passed.{passed}
+use Rattle.ct_model.specs.Rehearsal.{Rehearsal}
 use Rattle.ct_model.specs.declared.step.Step.{Step}
 use Rattle.ct_model.specs.declared.step.Step.TheVariants as step
 use Rattle.ct_world.specs.Driving.{best_heard, candidates, next_local}
 use Rattle.ct_world.specs.World.{member_of}
-use Rattle.ct_choices.specs.Choices.{ask_of, chosen, first_waiting, has_crashed, question, receives, said, tried}
 use Rattle.ct_grammar.specs.declared.play.Play.{Play}
-use Rattle.ct_play.specs.Cuts.{first_near, near}
-use Rattle.ct_play.specs.Played.{Played}
-use Rattle.ct_play.specs.Turning.{after_attempt, after_round, after_rounds, after_turn, has_ended, suspected_by, suspects, tried_at}
-use Rattle.ct_laws.specs.Places.{AreOf}
+use Rattle.ct_play.specs.Played.{Played, with_record}
+use Rattle.ct_play.specs.Turning.{after_attempt, after_round, after_rounds, after_turn, has_ended, suspected_by, tried_at}
+use Rattle.ct_laws.specs.Places.{AreAllowed, AreDeeds, EachIsAllowed, IsTurn, rounds}
 use Rattle.ct_laws.proofs.Cases.{if_either}
-use Rattle.ct_laws.proofs.Deeds.{Grows, grows_not, grows_on}
+use Rattle.ct_laws.proofs.Deeds.{Grows, GrowsIf, grown_whole, grows_more, grows_not, grows_on}
+use Rattle.ct_laws.proofs.Passing.{tried_passes}
 
 -- ---- whose step a turn tries
 
@@ -44,89 +47,82 @@ candidates_by p (Some from) = (refl, (refl, (refl, (refl, (refl, (refl, (refl, (
 pub next_by : (w : Rehearsal) (p : ℕ) → IsTry p (next_local w p)
 next_by w p = found_by (λ s. is_none (cause w s)) p (candidates p (member_of w p)) (candidates_by p (best_heard (member_of w p)))
 
-receipt_by : (p : ℕ) (o : Option ℕ) → IsTry p (receives p o)
-receipt_by p None = tt
-receipt_by p (Some k) = refl
-
-chosen_by : (p : ℕ) (serial : Option ℕ) (answer : Bool) (o : Option Step) → IsTry p o → IsTry p (chosen p serial answer o)
-chosen_by p serial answer None h = receipt_by p serial
-chosen_by p serial answer (Some (step.Suspect q)) h =
-    if_either (IsTry p) answer (Some (step.Suspect q)) (receives p serial) h (receipt_by p serial)
-chosen_by p serial answer (Some s) h = h
-
-near_receipt : (p q : ℕ) (o : Option ℕ) → q ≡ p → IsTry p (option_map (step.Receive q) o)
-near_receipt p q None h = tt
-near_receipt p q (Some k) h = h
-
-near_by : (s : Played) (p : ℕ) (o : Option Step) → IsTry p o → IsTry p (near s o)
-near_by s p None h = tt
-near_by s p (Some (step.Receive q k)) h = near_receipt p q (first_near s q) h
-near_by s p (Some other) h = h
-
-tried_by : (s : Played) (p : ℕ) (set : List ℕ) → IsTry p (tried_at s p set)
-unfolding tried_at tried
-tried_by s p set =
-    let w = s.rehearsal in
-    let answer = Some (ask_of w p, suspects set (question w p)) in
-    near_by s p (if has_crashed w p then None else chosen p (first_waiting w p) (said answer) (next_local w p))
-    (if_either (IsTry p) (has_crashed w p) None (chosen p (first_waiting w p) (said answer) (next_local w p)) tt
-    (chosen_by p (first_waiting w p) (said answer) (next_local w p) (next_by w p)))
-
 -- ---- a turn
 
-free_if : (o : Option Refusal) (s : Played) (step : Step) (ps : List ℕ) → cause s.rehearsal step ≡ o → IsIn (actor step) ps →
-    Grows (AreOf ps) s (record s { rehearsal = if is_none o then extended s.rehearsal step else s.rehearsal })
-free_if None s step ps free h = record { steps = step ∷ []; is = refl; allowed = (free, tt); so = (h, tt) }
-free_if (Some refusal) s step ps free h = grows_not (AreOf ps) s tt
+free_if : (o : Option Refusal) (w : Rehearsal) (step : Step) → cause w step ≡ o → AreAllowed w (if is_none o then step ∷ [] else [])
+free_if None w step free = (free, tt)
+free_if (Some refusal) w step free = tt
 
-attempt_grows : (s : Played) (p : ℕ) (ps : List ℕ) (o : Option Step) → IsTry p o → IsIn p ps → Grows (AreOf ps) s (after_attempt s o)
-attempt_grows s p ps None h k = grows_not (AreOf ps) s tt
-attempt_grows s p ps (Some step) h k =
-    free_if (cause s.rehearsal step) s step ps refl (subst (λ q. IsIn q ps) (sym h) k)
+tried_allowed : (w : Rehearsal) (o : Option Step) → AreAllowed w (passed w (option_to_list o))
+unfolding passed
+tried_allowed w None = tt
+tried_allowed w (Some step) = free_if (cause w step) w step refl
 
-turn_grows : (play : Play) (ps : List ℕ) (s : Played) (p : ℕ) → IsIn p ps → Grows (AreOf ps) s (after_turn play s p)
-unfolding after_turn
-turn_grows play ps s p h =
-    if_either (Grows (AreOf ps) s) (has_ended s play) s (after_attempt s (tried_at s p (suspected_by play))) (grows_not (AreOf ps) s tt)
-    (attempt_grows s p ps (tried_at s p (suspected_by play)) (tried_by s p (suspected_by play)) h)
+attempt_grows : (s : Played) (o : Option Step) → Grows (λ steps. steps ≡ passed s.rehearsal (option_to_list o)) s (after_attempt s o)
+attempt_grows s o = record {
+  steps = passed s.rehearsal (option_to_list o);
+  is = ap (with_record s) (tried_passes s.rehearsal o);
+  allowed = tried_allowed s.rehearsal o;
+  so = refl;
+}
 
--- ---- rounds of turns
+-- ---- turns up to the end of their line
 
-of_both : (ps : List ℕ) (a b : List Step) → AreOf ps a → AreOf ps b → AreOf ps (a ++ b)
-of_both ps [] b h k = k
-of_both ps (step ∷ a) b h k = (h.0, of_both ps a b h.1 k)
+-- a line's turns, of each of which before its end this is so
+module _ (play : Play) (Turn : Played → ℕ → List Step → Type 0)
+    (so : (s : Played) (p : ℕ) (steps : List Step) → EachIsAllowed s.rehearsal → has_ended s play ≡ false →
+    IsTurn (suspected_by play) s p steps → Turn s p steps) where
+  -- they are the first ones that these take, all where the line hasn't come to its end
+  abbrev AreFirst : Played → Played → List ℕ → List Step → Type 0
+  AreFirst s t ps steps =
+      (turns : List ℕ) × IsPrefix turns ps × (has_ended t play ≡ false → turns ≡ ps) × AreDeeds Turn s turns steps
 
-of_on : (ps : List ℕ) (s t u : Played) → Grows (AreOf ps) s t → Grows (AreOf ps) t u → Grows (AreOf ps) s u
-of_on ps s t u g h = grows_on (AreOf ps) (AreOf ps) (AreOf ps) s t u g h (λ a b _ here later. of_both ps a b here later)
+  stays : (ps : List ℕ) (s : Played) → has_ended s play ≡ true → fold (after_turn play) s ps ≡ s
+  unfolding after_turn
+  stays [] s h = refl
+  stays (p ∷ ps) s h =
+      ap (λ b. fold (after_turn play) (if b then s else after_attempt s (tried_at s p (suspected_by play))) ps) h ∙ stays ps s h
 
--- each of these is one of those
-abbrev AreAmong : List ℕ → List ℕ → Type 0
-AreAmong [] ps = ⊤
-AreAmong (q ∷ qs) ps = IsIn q ps × AreAmong qs ps
+  first_on : (p : ℕ) (ps : List ℕ) (s t u : Played) → has_ended s play ≡ false →
+      Grows (IsTurn (suspected_by play) s p) s t → GrowsIf (AreFirst t u ps) t u → GrowsIf (AreFirst s u (p ∷ ps)) s u
+  first_on p ps s t u going g h =
+      grows_on _ _ _ s t u g h (λ a b at allowed here later whole.
+      let rest = later (grown_whole s t a at allowed whole) in (
+        p ∷ rest.0,
+        (rest.1.0, ap (λ l. p ∷ l) rest.1.1),
+        λ going. ap (λ l. p ∷ l) (rest.2 going),
+        (a, b, refl, so s p a whole going here, subst (λ v. AreDeeds Turn v rest.0 b) at rest.3),
+      ))
 
-more_among : (qs ps : List ℕ) (p : ℕ) → AreAmong qs ps → AreAmong qs (p ∷ ps)
-more_among [] ps p h = tt
-more_among (q ∷ qs) ps p h = (inr h.0, more_among qs ps p h.1)
+  pub turns_grow : (ps : List ℕ) (s : Played) → GrowsIf (AreFirst s (fold (after_turn play) s ps) ps) s (fold (after_turn play) s ps)
+  unfolding after_turn
+  turns_grow [] s = grows_not _ s (λ whole. ([], ([], refl), λ going. refl, refl))
+  turns_grow (p ∷ ps) s =
+      let t = after_attempt s (tried_at s p (suspected_by play)) in
+      let f : Played → Played = λ u. fold (after_turn play) u ps in
+      cond_both (has_ended s play) s t (λ u. GrowsIf (AreFirst s (f u) (p ∷ ps)) s (f u))
+      (λ e. subst (λ u. GrowsIf (AreFirst s u (p ∷ ps)) s u) (sym (stays ps s e))
+      (grows_not _ s (λ whole. ([], (p ∷ ps, refl), λ going. contrary (has_ended s play) e going, refl))))
+      (λ e. first_on p ps s t (f t) e (attempt_grows s (tried_at s p (suspected_by play))) (turns_grow ps t))
 
-among_all : (ps : List ℕ) → AreAmong ps ps
-among_all [] = tt
-among_all (p ∷ ps) = (inl refl, more_among ps ps p (among_all ps))
+-- all of them, where the line has no such end
+pub all_grow : (play : Play) → ((t : Played) → has_ended t play ≡ false) → (ps : List ℕ) (s : Played) →
+    GrowsIf (AreDeeds (IsTurn (suspected_by play)) s ps) s (fold (after_turn play) s ps)
+all_grow play going ps s =
+    grows_more _ _ s (fold (after_turn play) s ps)
+    (λ steps first whole. let turns = first whole in
+    subst (λ l. AreDeeds (IsTurn (suspected_by play)) s l steps) (turns.2 (going (fold (after_turn play) s ps))) turns.3)
+    (turns_grow play (IsTurn (suspected_by play)) (λ t p steps whole going here. here) ps s)
 
-round_grows : (play : Play) (ps qs : List ℕ) (s : Played) → AreAmong qs ps → Grows (AreOf ps) s (after_round play qs s)
-round_grows play ps [] s h = grows_not (AreOf ps) s tt
-round_grows play ps (q ∷ qs) s h =
-    of_on ps s (after_turn play s q) (after_round play qs (after_turn play s q)) (turn_grows play ps s q h.0)
-    (round_grows play ps qs (after_turn play s q) h.1)
+-- rounds are turns of the same ones so many times over
+pub in_turns : (play : Play) (ps : List ℕ) (s : Played) (n : ℕ) → after_rounds play ps s n ≡ fold (after_turn play) s (rounds n ps)
+unfolding after_rounds rounds
+in_turns play ps s zero = refl
+in_turns play ps s (suc n) =
+    ap (after_round play ps) (in_turns play ps s n) ∙ sym (fold-append (after_turn play) s (rounds n ps) ps)
 
-pub rounds_grow : (play : Play) (ps : List ℕ) (s : Played) (n : ℕ) → Grows (AreOf ps) s (after_rounds play ps s n)
-unfolding after_rounds
-rounds_grow play ps s zero = grows_not (AreOf ps) s tt
-rounds_grow play ps s (suc k) =
-    of_on ps s (after_rounds play ps s k) (after_round play ps (after_rounds play ps s k)) (rounds_grow play ps s k)
-    (round_grows play ps ps (after_rounds play ps s k) (among_all ps))
-
--- one round more
-pub last_grows : (play : Play) (ps : List ℕ) (s : Played) (n : ℕ) → Grows (AreOf ps) s (after_round play ps (after_rounds play ps s n))
-last_grows play ps s n =
-    of_on ps s (after_rounds play ps s n) (after_round play ps (after_rounds play ps s n)) (rounds_grow play ps s n)
-    (round_grows play ps ps (after_rounds play ps s n) (among_all ps))
+pub rounds_grow : (play : Play) → ((t : Played) → has_ended t play ≡ false) → (ps : List ℕ) (s : Played) (n : ℕ) →
+    GrowsIf (AreDeeds (IsTurn (suspected_by play)) s (rounds n ps)) s (after_rounds play ps s n)
+rounds_grow play going ps s n =
+    subst (GrowsIf (AreDeeds (IsTurn (suspected_by play)) s (rounds n ps)) s) (sym (in_turns play ps s n))
+    (all_grow play going (rounds n ps) s)
