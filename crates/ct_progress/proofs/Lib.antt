@@ -1,0 +1,5 @@
+mod Members
+mod Counted
+mod Submitted
+mod Settled
+mod Stuck
