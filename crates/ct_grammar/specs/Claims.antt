@@ -95,7 +95,7 @@ unfoldable pub refused : List Word → Option (Result Claim Unfit)
 refused [] = None
 refused (word ∷ words) = if bytes_eq word (codes "choose") then refused_choice words else None
 
--- ---- last steps
+-- ---- last steps, and where the group stands
 
 -- this word alone, and what it claims
 unfoldable pub word_alone : Word → Wanted → Claim → List Word → Result Claim Unfit
@@ -107,13 +107,19 @@ word_alone name what claim (word ∷ words) =
 unfoldable pub followed : List Word → Result Claim Unfit
 followed words = map_ok claims.Follows (lone_whole wanted.Count words)
 
--- what is claimed of the last step of a member; None where it is something else
+-- what is claimed, where no words stand behind it
+abbrev pub lone_claim : Claim → List Word → Result Claim Unfit
+lone_claim claim words = map_ok (λ _. claim) (over (behind_term wanted.Nothing words) words)
+
+-- what is claimed of the last step of a member, or of where the group stands; None where it is something else
 unfoldable pub step_claim : Word → List Word → Option (Result Claim Unfit)
 step_claim name words =
     if bytes_eq name (codes "suspects") then Some (word_alone (codes "up") wanted.Up claims.SuspectsUp words) else (
     if bytes_eq name (codes "follows") then Some (followed words) else (
     if bytes_eq name (codes "chooses") then Some (word_alone (codes "unseen") wanted.Unseen claims.ChoosesUnseen words) else (
-    if bytes_eq name (codes "concludes") then Some (word_alone (codes "again") wanted.Again claims.ConcludesAgain words) else None)))
+    if bytes_eq name (codes "concludes") then Some (word_alone (codes "again") wanted.Again claims.ConcludesAgain words) else (
+    if bytes_eq name (codes "settled") then Some (lone_claim claims.Settled words) else (
+    if bytes_eq name (codes "stuck") then Some (lone_claim claims.Stuck words) else None)))))
 
 -- ---- all of them
 

@@ -33,7 +33,8 @@ unfoldable pub facts : List Word
 facts =
     codes "up" ∷ codes "crashed" ∷ codes "idle" ∷ codes "instance" ∷ codes "round" ∷ codes "phase" ∷ codes "received" ∷
     codes "decided" ∷ codes "delivered" ∷ codes "table" ∷ codes "estimate" ∷ codes "heard" ∷ codes "acked" ∷ codes "refuses" ∷
-    codes "may" ∷ codes "waiting" ∷ codes "waits" ∷ codes "suspects" ∷ codes "follows" ∷ codes "chooses" ∷ codes "concludes" ∷ []
+    codes "may" ∷ codes "waiting" ∷ codes "waits" ∷ codes "suspects" ∷ codes "follows" ∷ codes "chooses" ∷ codes "concludes" ∷
+    codes "settled" ∷ codes "stuck" ∷ []
 
 -- the reasons
 unfoldable pub reasons : List Word

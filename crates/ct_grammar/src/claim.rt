@@ -26,6 +26,10 @@ pub enum Claim {
     /// `concludes again`: the last step is its conclusion, by which it sent a decision of an instance of which one of another
     /// round had been sent.
     ConcludesAgain,
+    /// `settled`: it crashed, or all is done in the group.
+    Settled,
+    /// `stuck`: it is up and nobody can move, and yet not all is done.
+    Stuck,
 }
 
 /// What is counted of a member.

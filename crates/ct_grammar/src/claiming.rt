@@ -2,7 +2,7 @@
 
 ghost use Rattle.std.specs.Prelude.{◌≡◌, IfOk, map};
 ghost use Rattle.ct_grammar.specs.Claims.{extent_of, counted, at_least, one_number, decided, name_of, in_order, before, delivered};
-ghost use Rattle.ct_grammar.specs.Claims.{chosen, refused_choice, refused, word_alone, followed, step_claim, event_claim};
+ghost use Rattle.ct_grammar.specs.Claims.{chosen, refused_choice, refused, word_alone, followed, lone_claim, step_claim, event_claim};
 ghost use Rattle.ct_grammar.specs.Claims.{amount_claim, or_fact, claim_of};
 ghost use Rattle.ct_grammar.specs.Unfits.{map_ok};
 ghost use Rattle.ct_grammar.specs.declared.claim.Claim.{Claim};
@@ -223,7 +223,20 @@ fn followed(words: &[&str]) -> Result<Claim, Unfit>
     Ok(Claim::Follows(lone_whole(words, Wanted::Count)?))
 }
 
-// What is claimed of the last step of a member.
+// What is claimed, where no words stand behind it.
+fn lone_claim(claim: Claim, words: &[&str]) -> Result<Claim, Unfit>
+    ensures { result ≡ lone_claim claim (map (λ word. word.now) words.now) }
+{
+    match over(words, behind_term(words, Wanted::Nothing)) {
+        Ok(()) => Ok(claim),
+        Err(unfit) => {
+            drop(claim);
+            Err(unfit)
+        }
+    }
+}
+
+// What is claimed of the last step of a member, or of where the group stands.
 #[tactic(auto, unfolding(crate::specs::Claims::step_claim))]
 fn step_claim(name: &str, words: &[&str]) -> Option<Result<Claim, Unfit>>
     ensures { result ≡ step_claim name.now (map (λ word. word.now) words.now) }
@@ -233,6 +246,8 @@ fn step_claim(name: &str, words: &[&str]) -> Option<Result<Claim, Unfit>>
         "follows" => Some(followed(words)),
         "chooses" => Some(word_alone("unseen", Wanted::Unseen, Claim::ChoosesUnseen, words)),
         "concludes" => Some(word_alone("again", Wanted::Again, Claim::ConcludesAgain, words)),
+        "settled" => Some(lone_claim(Claim::Settled, words)),
+        "stuck" => Some(lone_claim(Claim::Stuck, words)),
         _ => None,
     }
 }

@@ -44,7 +44,7 @@
 //! CLAIM                FACT, instance >= N, round >= N, waiting >= N,
 //!                      received count N, decided count N, delivered count N, each also with >= before N,
 //!                      decided N, delivered O.N before O.N, refuses choose REASON,
-//!                      suspects up, follows N, chooses unseen, concludes again
+//!                      suspects up, follows N, chooses unseen, concludes again, settled, stuck
 //! ```
 //!
 //! Of a line or a goal that is not understood a [`Misfit`] says which word does not fit, or that it ends too early, and what could

@@ -65,6 +65,8 @@ fn facts() -> &'static [&'static str]
         "follows",
         "chooses",
         "concludes",
+        "settled",
+        "stuck",
     ]
 }
 

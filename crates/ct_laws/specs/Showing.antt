@@ -28,6 +28,7 @@ use Rattle.ct_grammar.specs.declared.term.When.{When}
 use Rattle.ct_grammar.specs.declared.term.When.TheVariants.{Now, Ever, Never}
 use Rattle.ct_grammar.specs.declared.term.Whom.{Whom}
 use Rattle.ct_grammar.specs.declared.term.Whom.TheVariants as whom
+use Rattle.ct_progress.specs.Progress.{is_settled, is_stuck}
 use Rattle.ct_play.specs.Claims.{amount_of, is_named, was_other}
 use Rattle.ct_play.specs.Picking.{is_carried, is_so}
 use Rattle.ct_play.specs.Played.{Played, first_part}
@@ -80,7 +81,7 @@ abbrev pub DecidesAgain : Rehearsal → ℕ → ℕ → Type 0
 DecidesAgain w p round =
     WasSent w (is_so w (Dec (member_of w p).last round) (Some p)) × WasSent w (was_other w (member_of w p).last round)
 
--- the claim is true of member p
+-- the claim is true of member p; what that means of the last two, laws of ct_progress say
 abbrev pub Claims : Played → ℕ → Claim → Type 0
 Claims s p (claim.Fact fact) = IsSo s p fact
 Claims s p (claim.Amount what extent) = IsEnough extent (amount_of s.rehearsal p what)
@@ -92,6 +93,8 @@ Claims s p (claim.Follows k) = EndsWith s.rehearsal (Follow p) × ((member_of s.
 Claims s p claim.ChoosesUnseen = (q : ℕ) × EndsWith s.rehearsal (Choose p q) × IsUnseen s.rehearsal p q
 Claims s p claim.ConcludesAgain =
     EndsWith s.rehearsal (Conclude p) × Stands s.rehearsal p (λ c. DecidesAgain s.rehearsal p c.round)
+Claims s p claim.Settled = is_settled s.rehearsal p ≡ true
+Claims s p claim.Stuck = is_stuck s.rehearsal p ≡ true
 
 -- ---- of whom
 

@@ -67,7 +67,7 @@ abbrev pub open_amount : Amount → Option NoEntry
 open_amount amounts.Waiting = Some OpenFact
 open_amount _ = None
 
--- the same of claims; those of the last step are of that of the run
+-- the same of claims; those of the last step are of that of the run, and where all is done is of the whole group
 abbrev pub open_claim : Claim → Option NoEntry
 open_claim (claims.Fact fact) = open_fact fact
 open_claim (claims.Amount what extent) = open_amount what
@@ -78,6 +78,8 @@ open_claim claims.SuspectsUp = Some OpenFact
 open_claim (claims.Follows k) = Some OpenFact
 open_claim claims.ChoosesUnseen = Some OpenFact
 open_claim claims.ConcludesAgain = Some OpenFact
+open_claim claims.Settled = Some OpenFact
+open_claim claims.Stuck = Some OpenFact
 
 abbrev pub if_open : ℕ → Option NoEntry → Result ℕ NoEntry
 if_open p None = Ok p

@@ -54,6 +54,8 @@ fn open_claim(claim: &Claim) -> Option<NoEntry>
         Claim::Follows(_) => Some(NoEntry::OpenFact),
         Claim::ChoosesUnseen => Some(NoEntry::OpenFact),
         Claim::ConcludesAgain => Some(NoEntry::OpenFact),
+        Claim::Settled => Some(NoEntry::OpenFact),
+        Claim::Stuck => Some(NoEntry::OpenFact),
     }
 }
 

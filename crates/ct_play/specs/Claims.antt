@@ -20,6 +20,7 @@ use Rattle.ct_model.specs.declared.step.Step.TheVariants.{Receive, Choose, Suspe
 use Rattle.ct_model.specs.declared.wire.Wire.{Wire}
 use Rattle.ct_model.specs.declared.wire.Wire.TheVariants as wire
 use Rattle.ct_choices.specs.Choices.{has_crashed}
+use Rattle.ct_progress.specs.Progress.{is_settled, is_stuck}
 use Rattle.ct_world.specs.Decided.{last_decided}
 use Rattle.ct_world.specs.Standing.{heard_by}
 use Rattle.ct_world.specs.World.{if_member, member_of}
@@ -186,6 +187,8 @@ says s p claim.SuspectsUp = suspects_up s.rehearsal p (last_step s.rehearsal)
 says s p (claim.Follows k) = follows s.rehearsal p k (last_step s.rehearsal)
 says s p claim.ChoosesUnseen = chooses_unseen s.rehearsal p (last_step s.rehearsal)
 says s p claim.ConcludesAgain = concludes_again s.rehearsal p (last_step s.rehearsal)
+says s p claim.Settled = is_settled s.rehearsal p
+says s p claim.Stuck = is_stuck s.rehearsal p
 
 -- the claim is true of p; of no member of the group it is
 unfoldable pub is_true_of : Played → ℕ → Claim → Bool

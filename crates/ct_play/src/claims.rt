@@ -17,6 +17,7 @@ use crate::stage::Stage;
 use ct_grammar::{Amount, Carried, Claim, Extent, Name, Reason};
 use ct_model::{Phase, Step};
 use ct_names::{Instance, Member, Message, Round, Serial};
+use ct_progress::{is_settled, is_stuck};
 use ct_world::{Letter, Wire, World};
 use std::alloc::{AllocError, Global};
 
@@ -58,6 +59,8 @@ fn says(alloc: Global, stage: &Stage, member: Member, claim: &Claim) -> Result<b
         Claim::Follows(instance) => Ok(follows(world, member, *instance, last_step(world))),
         Claim::ChoosesUnseen => Ok(chooses_unseen(world, member, last_step(world))),
         Claim::ConcludesAgain => Ok(concludes_again(stage, member, last_step(world))),
+        Claim::Settled => Ok(is_settled(world, member)),
+        Claim::Stuck => Ok(is_stuck(world, member)),
     }
 }
 

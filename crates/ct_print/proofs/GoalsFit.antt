@@ -11,7 +11,8 @@ use Rattle.ct_grammar.specs.declared.reason.Reason.{Reason}
 use Rattle.ct_grammar.specs.declared.term.Term.{Term}
 use Rattle.ct_grammar.specs.declared.term.When.{When}
 use Rattle.ct_grammar.specs.Claims.{extent_of, counted, at_least, one_number, decided, name_of, in_order, before, delivered, chosen}
-use Rattle.ct_grammar.specs.Claims.{refused_choice, refused, word_alone, followed, step_claim, event_claim, amount_claim, or_fact, claim_of}
+use Rattle.ct_grammar.specs.Claims.{refused_choice, refused, lone_claim, word_alone, followed, step_claim, event_claim, amount_claim}
+use Rattle.ct_grammar.specs.Claims.{or_fact, claim_of}
 use Rattle.ct_grammar.specs.Facts.{named_fact}
 use Rattle.ct_grammar.specs.Goals.{is_and, whom_of, claimed, term_of, parts_of, told_before_and, terms_of, goal_in, goal_of}
 use Rattle.ct_grammar.specs.Numbers.{max_u32}
@@ -94,9 +95,12 @@ unfolding word_alone
 alone_word_fits name what claim [] h = tt
 alone_word_fits name what claim (word ∷ words) h = search steps
 
+lone_fits : (claim : Claim) (words : List Word) → ClaimFits claim → IfOk (lone_claim claim words) ClaimFits
+lone_fits claim words h = search steps
+
 step_fits : (name : Word) (words : List Word) → AreWords words → MayFit (step_claim name words)
 unfolding step_claim followed
-step_fits name words g = search (steps, alone_word_fits, alone_fits) depth 8
+step_fits name words g = search (steps, alone_word_fits, lone_fits, alone_fits) depth 12
 
 -- ---- all claims
 

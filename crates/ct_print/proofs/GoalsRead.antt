@@ -89,6 +89,8 @@ claim_words claims.SuspectsUp = codes "suspects" ∷ codes "up" ∷ []
 claim_words (claims.Follows i) = codes "follows" ∷ decimal i ∷ []
 claim_words claims.ChoosesUnseen = codes "chooses" ∷ codes "unseen" ∷ []
 claim_words claims.ConcludesAgain = codes "concludes" ∷ codes "again" ∷ []
+claim_words claims.Settled = codes "settled" ∷ []
+claim_words claims.Stuck = codes "stuck" ∷ []
 
 amount_says : (what : Amount) → Says (amount_text what) (amount_words what)
 unfolding amount_text

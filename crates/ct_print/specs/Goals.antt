@@ -44,6 +44,8 @@ claim_text claims.SuspectsUp = text_of (codes "suspects" ∷ codes "up" ∷ [])
 claim_text (claims.Follows i) = text_of (codes "follows" ∷ decimal i ∷ [])
 claim_text claims.ChoosesUnseen = text_of (codes "chooses" ∷ codes "unseen" ∷ [])
 claim_text claims.ConcludesAgain = text_of (codes "concludes" ∷ codes "again" ∷ [])
+claim_text claims.Settled = codes "settled"
+claim_text claims.Stuck = codes "stuck"
 
 -- of whom it has to hold
 unfoldable pub whom_text : Whom → Word

@@ -187,6 +187,8 @@ ClaimFits claims.SuspectsUp = Unit {0}
 ClaimFits (claims.Follows i) = i ≤ max_u32
 ClaimFits claims.ChoosesUnseen = Unit {0}
 ClaimFits claims.ConcludesAgain = Unit {0}
+ClaimFits claims.Settled = Unit {0}
+ClaimFits claims.Stuck = Unit {0}
 
 abbrev pub WhomFits : Whom → Type 0
 WhomFits (whom.One p) = p ≤ max_u8

@@ -90,6 +90,8 @@ pub fn push_claim(text: &mut String, claim: &Claim) -> Result<(), AllocError>
         Claim::Follows(instance) => write!(text, "follows {instance}"),
         Claim::ChoosesUnseen => text.push_str("chooses unseen"),
         Claim::ConcludesAgain => text.push_str("concludes again"),
+        Claim::Settled => text.push_str("settled"),
+        Claim::Stuck => text.push_str("stuck"),
     }
 }
 

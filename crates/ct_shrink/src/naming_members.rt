@@ -24,7 +24,9 @@ fn claim_names(claim: &Claim) -> bool {
         | Claim::SuspectsUp
         | Claim::Follows(_)
         | Claim::ChoosesUnseen
-        | Claim::ConcludesAgain => false,
+        | Claim::ConcludesAgain
+        | Claim::Settled
+        | Claim::Stuck => false,
     }
 }
 

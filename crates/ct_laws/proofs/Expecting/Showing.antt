@@ -196,6 +196,8 @@ module _ (s : Played) (p : ℕ) (member : IsMember s.rehearsal.setting.members p
   says_so (claim.Follows k) law h = follows_so s.rehearsal p k (last_step s.rehearsal) refl h
   says_so claim.ChoosesUnseen law h = chooses_so s.rehearsal p member (last_step s.rehearsal) refl h
   says_so claim.ConcludesAgain law h = concludes_so s.rehearsal p member (last_step s.rehearsal) refl h
+  says_so claim.Settled law h = h
+  says_so claim.Stuck law h = h
 
   so_says : (c : Claim) → Claims s p c → says s p c ≡ true
   so_says (claim.Fact fact) h = so_holds s p fact member h
@@ -207,6 +209,8 @@ module _ (s : Played) (p : ℕ) (member : IsMember s.rehearsal.setting.members p
   so_says (claim.Follows k) h = so_follows s.rehearsal p k h.0 h.1
   so_says claim.ChoosesUnseen h = so_chooses s.rehearsal p member h.0 h.1 h.2
   so_says claim.ConcludesAgain h = so_concludes s.rehearsal p member h.0 h.1
+  so_says claim.Settled h = h
+  so_says claim.Stuck h = h
 
 true_so : (s : Played) (p : ℕ) (c : Claim) → IsLawful s.rehearsal → is_true_of s p c ≡ true →
     IsMember s.rehearsal.setting.members p × Claims s p c
