@@ -1,6 +1,6 @@
 -- What goals ask for, one term more at a time.
-use Rattle.std.proofs.Common.{◌≡◌, ℕ, ◌+◌, ◌<◌, ◌≤◌, Bool, true, false, not, List, Some, None, Ok, Err}
-use Rattle.std.proofs.Common.{ap, sym, ◌∙◌, subst, arith, drop, take}
+use Rattle.std.proofs.Common.{◌≡◌, ℕ, ◌+◌, ◌<◌, ◌≤◌, Bool, true, false, not, List, Some, None, Ok}
+use Rattle.std.proofs.Common.{ap, sym, ◌∙◌, arith, drop, take}
 use Rattle.std.proofs.Common.{get_or, length}
 use Rattle.std.specs.Prelude.{find}
 use Rattle.std.proofs.lemmas.List.{drop_all, drop_more}

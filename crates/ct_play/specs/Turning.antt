@@ -1,19 +1,20 @@
 -- Turns as a driver makes them, where it is given whom the failure detector suspects.
-use Rattle.std.specs.Prelude.{ℕ, zero, suc, ◌-◌, ◌==◌, Bool, false, List, [], Option, Some, None, Result, Ok, Err, fold, length}
+use Rattle.std.specs.Prelude.{◌≡◌, ℕ, zero, suc, ◌-◌, ◌==◌, Bool, false, List, [], Option, Some, None, Result, Ok, Err, fold, length}
 use Rattle.std.specs.Prelude.{if◌then◌else◌}
 use Rattle.ct_names.specs.MemberSet.{has_member}
 use Rattle.ct_model.specs.declared.step.Step.{Step}
 use Rattle.ct_detect.specs.declared.ask.Ask.{Ask}
 use Rattle.ct_choices.specs.Choices.{after_try, ask_of, question, tried}
 use Rattle.ct_grammar.specs.declared.goal.Goal.{Goal}
+use Rattle.ct_grammar.specs.declared.term.Term.{Term}
 use Rattle.ct_grammar.specs.declared.play.Play.{Play}
 use Rattle.ct_grammar.specs.declared.play.Play.TheVariants.{Turns, Settle, Until}
 use Rattle.ct_grammar.specs.declared.who.Who.{Who}
 use Rattle.ct_play.specs.Acting.{go_on}
 use Rattle.ct_play.specs.Cuts.{near}
 use Rattle.ct_play.specs.Expecting.{all_known, expected_of}
-use Rattle.ct_play.specs.Goals.{shows}
-use Rattle.ct_play.specs.Played.{Played, with_record}
+use Rattle.ct_play.specs.Goals.{looks_of, shows}
+use Rattle.ct_play.specs.Played.{Played, with_record, with_step}
 use Rattle.ct_play.specs.Who.{known, named}
 use Rattle.ct_play.specs.declared.line_fault.LineFault.{LineFault}
 use Rattle.ct_play.specs.declared.line_fault.LineFault.TheVariants.{Restless}
@@ -32,6 +33,22 @@ suspected_by _ = []
 abbrev pub has_ended : Played → Play → Bool
 has_ended s (Until who set goal) = shows goal s
 has_ended s _ = false
+
+-- the terms of the goal that a line looks at between turns
+abbrev pub terms_in : Play → List Term
+terms_in (Until who set goal) = goal
+terms_in _ = []
+
+-- this is what they came to on the stage
+abbrev pub IsSeen : Play → Played → List Bool → Type 0
+IsSeen play s looks = looks ≡ looks_of s (terms_in play)
+
+-- and this what they had come to before its last step
+pub record IsSeenBefore (play : Play) (s : Played) (looks : List Bool) : Type 0 where
+  pub before : Played
+  pub step : Step
+  pub is : s ≡ with_step before step
+  pub seen : IsSeen play before looks
 
 -- the answer to a question: yes where the coordinator that is asked about is among these
 abbrev pub suspects : List ℕ → Option Ask → Bool

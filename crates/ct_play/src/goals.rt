@@ -6,7 +6,7 @@ ghost use Rattle.ct_names.specs.Group.{members};
 ghost use Rattle.ct_names.specs.declared.limit.TheConstants.{MAX_MEMBERS};
 ghost use Rattle.ct_play.specs.Claims.{takes_memory};
 ghost use Rattle.ct_play.specs.Goals.{agrees, holds_at, holds_for, is_due, is_meant, is_met, is_such, looked_at};
-ghost use Rattle.ct_play.specs.Goals.{next_look, shows, take_memory, terms, unshown, was_seen};
+ghost use Rattle.ct_play.specs.Goals.{come_to, looks_of, next_look, shows, take_memory, terms, unshown, was_seen};
 
 use crate::claims::{is_true_of, takes_memory};
 use crate::stage::Stage;
@@ -137,11 +137,28 @@ fn agrees(wanted: bool, met: bool) -> bool
 pub(crate) fn is_met(alloc: Global, stage: &Stage, term: &Term) -> Result<bool, AllocError>
     ensures { IfOk result (λ met. met ≡ is_met stage.now term.now) }
 {
-    let seen = match term.when {
-        When::Now => holds_at(alloc, stage, term)?,
-        When::Ever | When::Never => was_seen(alloc, stage, term)?,
-    };
-    Ok(is_due(term.when, seen))
+    Ok(is_due(term.when, come_to(alloc, stage, term)?))
+}
+
+// What the term comes to on the stage.
+fn come_to(alloc: Global, stage: &Stage, term: &Term) -> Result<bool, AllocError>
+    ensures { IfOk result (λ seen. seen ≡ come_to term.now.when stage.now term.now) }
+{
+    match term.when {
+        When::Now => holds_at(alloc, stage, term),
+        When::Ever | When::Never => was_seen(alloc, stage, term),
+    }
+}
+
+// What each term comes to on the stage.
+pub(crate) fn looks(alloc: Global, stage: &Stage, terms: &[Term]) -> Result<Vec<bool>, AllocError>
+    ensures { IfOk result (λ looks. looks.items ≡ looks_of stage.now terms.now) }
+{
+    let mut looks = Vec::new(alloc);
+    for term in terms {
+        looks.push(come_to(alloc, stage, term)?)?;
+    }
+    Ok(looks)
 }
 
 // Whether what the term says was so at a beginning of the run: its steps are taken again.

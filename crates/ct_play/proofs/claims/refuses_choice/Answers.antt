@@ -1,4 +1,4 @@
-use Rattle.std.proofs.Common.{◌∙◌, ◌≡◌, ℕ, sym, ap, refl, arith}
+use Rattle.std.proofs.Common.{◌∙◌, ◌≡◌, sym, ap, refl, arith}
 use Rattle.std.specs.Prelude.{is_some}
 use Rattle.std.specs.List.{list_any}
 use Rattle.ct_names.specs.Group.{members}

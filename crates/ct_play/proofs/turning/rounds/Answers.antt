@@ -8,6 +8,7 @@ pub loop-i-init : goal.loop-i-init
 loop-i-init c = record {
   so_far = sym (no_rounds c.args.play.now c.args.members.now c.args.stage.now);
   later = later_same c.args.stage.now c.args.stage.now refl;
+  seen = c.requires;
 }
 
 pub returns-then-not-branch-clause-ok : goal.returns-then-not-branch-clause-ok
@@ -27,4 +28,5 @@ loop-i-preserved c = record {
       ∙ (sym (one_more c.args.play.now c.args.members.now c.args.stage.now c.loop-i.i)
       ∙ ap (after_rounds c.args.play.now c.args.members.now c.args.stage.now) (sym (add-one c.loop-i.i))));
   later = later_on c.args.stage.now c.loop-i.stage c.moving_round.new.stage c.loop-i.invariant.later c.in_ok-moving_round.ensures.later;
+  seen = c.in_ok-moving_round.ensures.seen;
 }
