@@ -1,4 +1,4 @@
--- Where no step but a submission is refused for a limit, what is enabled is allowed.
+-- What is refused, and not for a limit, isn't enabled.
 use Rattle.std.proofs.Common.{◌≡◌, ◌⊎◌, inl, inr, ℕ, Bool, true, false, [], ◌∷◌, Option, Some, None, refl, ap, ◌∙◌, arith}
 use Rattle.std.specs.Prelude.{is_none}
 use Rattle.ct_names.specs.declared.limit.Limit.{Limit}
@@ -14,10 +14,11 @@ use Rattle.ct_model.specs.Rehearsal.{Rehearsal, state_of}
 use Rattle.ct_model.specs.State.{member}
 use Rattle.ct_model.specs.declared.step.Step.{Step}
 use Rattle.ct_model.specs.declared.step.Step.TheVariants.{Receive}
+use Rattle.ct_model.proofs.Basics.Options.{none-from}
 use Rattle.ct_model.proofs.Record.Causes.{own_tests}
 use Rattle.ct_model.proofs.Record.Limits.{own_tests-is, cause-limited, cause-passed}
 use Rattle.ct_model.proofs.Relay.Messages.{next-is}
-use Rattle.ct_settled.specs.Settled.{IsSubmission}
+use Rattle.ct_settled.specs.Hindrance.{told}
 
 -- no refusal, or one for a limit
 abbrev IsOfLimit : Option Refusal → Type 0
@@ -31,36 +32,45 @@ limit_is : (w : Rehearsal) (step : Step) → IsOfLimit (limit w step)
 unfolding limit
 limit_is w step = grind (arith, first_limit)
 
--- where an optional value can't be there it isn't
-pub none-from : {A : Type 0} (o : Option A) → ((x : A) → o ≡ Some x → ⊥) → o ≡ None
-none-from None h = refl
-none-from (Some x) h = absurd (h x refl)
-
 -- where a row gives an outcome and what the step names waits or not, as the step asks, no test of its own fires
 row_free : (w : Rehearsal) (step : Step) (o : Outcome) → row w.setting (state_of w) (actor step) (member (state_of w) (actor step)) step
     ≡ Some o → NamesWaiting w step → first_fault (own_tests w step) ≡ None
 unfolding enter choose adopt suspect conclude
 row_free w step o is names = ap first_fault (own_tests-is w step) ∙ grind arith
 
-module _ (w : Rehearsal) (roomy : (step : Step) (l : Limit) → cause w step ≡ Some (Full l) → IsSubmission step) where
+module _ (w : Rehearsal) (step : Step) where
+  -- no limit refuses the step
+  abbrev pub IsRoomy : Type 0
+  IsRoomy = (l : Limit) → cause w step ≡ Some (Full l) → ⊥
+
+  -- what is refused, and not for a limit, is no news
+  pub untold : IsRoomy → is_none (cause w step) ≡ false → told w step ≡ None
+  untold roomy off = grind arith
+
+  pub refused : told w step ≡ None → is_none (cause w step) ≡ false
+  refused off = grind arith
+
+  pub roomy : told w step ≡ None → IsRoomy
+  roomy off l e = grind arith
+
   -- where a limit alone could refuse a step it is allowed
-  unlimited : (step : Step) → (IsSubmission step → ⊥) → cause w step ≡ limit w step → cause w step ≡ None
-  unlimited step other e = elim (limit_is w step) [ inl none ↦ e ∙ none | inr full ↦ absurd (other (roomy step full.0 (e ∙ full.1))) ]
+  unlimited : IsRoomy → cause w step ≡ limit w step → cause w step ≡ None
+  unlimited room e = elim (limit_is w step) [ inl none ↦ e ∙ none | inr full ↦ absurd (room full.0 (e ∙ full.1)) ]
 
   -- where no test of its own fires a step is allowed
-  pub tested_free : (step : Step) → (IsSubmission step → ⊥) → IsPresent w (actor step) → first_fault (own_tests w step) ≡ None →
-      cause w step ≡ None
-  tested_free step other present e = unlimited step other (cause-limited w step present e)
+  pub tested_free : IsRoomy → IsPresent w (actor step) → first_fault (own_tests w step) ≡ None → cause w step ≡ None
+  tested_free room present e = unlimited room (cause-limited w step present e)
 
-  -- what is refused isn't enabled
-  pub not_enabled : (step : Step) → (IsSubmission step → ⊥) → NamesWaiting w step → is_none (cause w step) ≡ false →
-      next w.setting (state_of w) step ≡ None
-  not_enabled step other names e = none-from (next w.setting (state_of w) step) (λ h is.
+  -- what is refused, and not for a limit, isn't enabled
+  pub not_enabled : NamesWaiting w step → told w step ≡ None → next w.setting (state_of w) step ≡ None
+  not_enabled names off = none-from (next w.setting (state_of w) step) (λ h is.
       let s = next-is w.setting (state_of w) step h is in
-      let none = tested_free step other (record { in_group = s.in_group; up = s.up }) (row_free w step s.outcome s.row names) in
+      let none = tested_free (roomy off) (record { in_group = s.in_group; up = s.up }) (row_free w step s.outcome s.row names) in
+      let some = refused off in
       cc)
 
-  -- what waits at one that is up may be received
-  pub receipt_free : (p k : ℕ) → IsPresent w p → is_waiting w p k ≡ true → cause w (Receive p k) ≡ None
-  receipt_free p k present waits =
-      unlimited (Receive p k) (λ h. h) (cause-passed w (Receive p k) NotWaiting (is_waiting w p k) refl present waits)
+-- what waits at one that is up may be received
+pub receipt_free : (w : Rehearsal) (p k : ℕ) → IsRoomy w (Receive p k) → IsPresent w p → is_waiting w p k ≡ true →
+    cause w (Receive p k) ≡ None
+receipt_free w p k room present waits =
+    unlimited w (Receive p k) room (cause-passed w (Receive p k) NotWaiting (is_waiting w p k) refl present waits)

@@ -1,6 +1,14 @@
+mod Acting
+mod Crashed
+mod Firsts
+mod Marking
 mod Still
 mod Free
 mod Best
+mod Blocked
 mod Gone
 mod Quiet
 mod Rested
+mod Unhindered
+mod Turned
+mod Ending

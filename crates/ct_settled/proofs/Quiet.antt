@@ -20,7 +20,7 @@ use Rattle.ct_model.specs.Phases.{is_wait}
 use Rattle.ct_model.specs.Rehearsal.{Rehearsal, line_of}
 use Rattle.ct_model.specs.declared.step.Step.{Step}
 use Rattle.ct_model.specs.declared.step.Step.TheVariants.{Receive, Begin, Enter, Choose, Adopt, Suspect, Conclude, Deliver, Follow}
-use Rattle.ct_model.proofs.Basics.Options.{none-is}
+use Rattle.ct_model.proofs.Basics.Options.{none-from, none-is}
 use Rattle.ct_model.proofs.Basics.Tests.{not_true, same_number, self_number}
 use Rattle.ct_model.proofs.Record.Causes.{own_tests}
 use Rattle.ct_model.proofs.Record.Limits.{own_tests-is}
@@ -33,17 +33,13 @@ use Rattle.ct_play.specs.Played.{Played}
 use Rattle.ct_play.specs.Turning.{suspects, tried_at}
 use Rattle.ct_settled.specs.Settled.{IsSubmission}
 use Rattle.ct_settled.proofs.Best.{found}
-use Rattle.ct_settled.proofs.Free.{none-from, receipt_free, tested_free}
+use Rattle.ct_settled.proofs.Blocked.{IsOff, late_in, own_steps}
+use Rattle.ct_settled.proofs.Free.{IsRoomy, receipt_free, tested_free, untold}
 use Rattle.ct_settled.proofs.Still.{IsRefused}
 
--- the steps of its own that a turn of p tries, in order, where this is the best one heard; a suspicion comes last
-abbrev pub own_steps : ℕ → Option ℕ → List Step
-own_steps p best = (Deliver p ∷ Follow p ∷ Begin p ∷ []) ++ option_to_list (option_map (Choose p) best)
-    ++ (Adopt p ∷ Conclude p ∷ Enter p ∷ [])
-
--- those that come last
-pub late_in : (p : ℕ) (best : Option ℕ) (step : Step) → IsIn step (Adopt p ∷ Conclude p ∷ Enter p ∷ []) → IsIn step (own_steps p best)
-late_in p best step h = grind arith
+-- none of them is a submission
+own_not : (p : ℕ) (best : Option ℕ) (step : Step) → IsIn step (own_steps p best) → IsSubmission step → ⊥
+own_not p best step h other = grind arith
 
 candidates_are : (p : ℕ) (best : Option ℕ) →
     (Deliver p ∷ Follow p ∷ Begin p ∷ []) ++ option_to_list (option_map (Choose p) best)
@@ -112,6 +108,13 @@ module _ (t : Played) (set : List ℕ) (p : ℕ) (present : IsPresent t.rehearsa
   ]
 
   module _ (roomy : (step : Step) (l : Limit) → cause t.rehearsal step ≡ Some (Full l) → IsSubmission step) where
+    room : (step : Step) → (IsSubmission step → ⊥) → IsRoomy w step
+    room step other l e = other (roomy step l e)
+
+    -- nor is it refused for a limit
+    pub off : IsOff t.rehearsal p
+    off step h = untold w step (room step (own_not p (best_heard (member_of w p)) step h)) (not_free step h)
+
     waiting_is : waiting_at w p ≡ line_of w p
     unfolding waiting_at
     waiting_is = rw present.in_group refl
@@ -134,19 +137,19 @@ module _ (t : Played) (set : List ℕ) (p : ℕ) (present : IsPresent t.rehearsa
         let tries_it : tried_at t p set ≡ Some (Receive p i) =
         receives_first ∙ ap (λ o. near t (receives p o)) first.1 ∙ ap (option_map (Receive p)) some.1 in
         refused (Receive p i) tries_it
-        (receipt_free w roomy p i present (list_any-found (λ j. j == i) i (line_of w p) here (self_number i)))
+        (receipt_free w p i (room (Receive p i) (λ h. h)) present (list_any-found (λ j. j == i) i (line_of w p) here (self_number i)))
 
     module _ (c : Standing) (at : (member_of t.rehearsal p).current ≡ Some c) (waits : is_wait c.phase ≡ true) where
       -- who waits has no proposal, as it could adopt one
       no_proposal : (own_ballots (member_of w p) c).proposal ≡ None
       no_proposal = none-from (own_ballots (member_of w p) c).proposal (λ v is.
           let tested : first_fault (own_tests w (Adopt p)) ≡ None = ap first_fault (own_tests-is w (Adopt p)) ∙ grind arith in
-          let allowed = tested_free w roomy (Adopt p) (λ h. h) present tested in
+          let allowed = tested_free w (Adopt p) (room (Adopt p) (λ h. h)) present tested in
           let not_allowed = not_free (Adopt p) (late_in p (best_heard (member_of w p)) (Adopt p) (inl refl)) in
           cc)
 
       suspect_free : free (Suspect p) ≡ true
-      suspect_free = grind (arith, nat_tests, no_proposal, own_tests, own_tests-is, tested_free)
+      suspect_free = grind (arith, nat_tests, no_proposal, own_tests, own_tests-is, tested_free, room (Suspect p))
 
       asks : question w p ≡ Some (ask_of w p)
       unfolding question

@@ -1,1 +1,4 @@
+pub mod Completing
+pub mod Hindrance
+pub mod Marks
 pub mod Settled

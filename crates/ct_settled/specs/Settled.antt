@@ -10,9 +10,9 @@ use Rattle.ct_model.specs.declared.step.Step.{Step}
 use Rattle.ct_model.specs.declared.step.Step.TheVariants.{Submit, Receive, Lose}
 use Rattle.ct_model.specs.Cause.{cause}
 use Rattle.ct_model.specs.Lawful.{IsLawful}
-use Rattle.ct_model.specs.Rehearsal.{state_of}
+use Rattle.ct_model.specs.Rehearsal.{Rehearsal, state_of}
 use Rattle.ct_model.specs.State.{is_crashed}
-use Rattle.ct_rest.specs.Rest.{IsUp, members_up}
+use Rattle.ct_rest.specs.Rest.{IsDone, IsUp, members_up}
 use Rattle.ct_grammar.specs.declared.play.Play.TheVariants.{Settle}
 use Rattle.ct_grammar.specs.declared.who.Who.{Who}
 use Rattle.ct_grammar.specs.Sides.{together}
@@ -25,9 +25,19 @@ use Rattle.ct_play.specs.Who.{named}
 abbrev pub IsUpIn : Played → ℕ → Type 0
 IsUpIn t p = IsUp t.rehearsal.setting (state_of t.rehearsal) p
 
+-- of members that are up each two are done with each other
+abbrev pub AreDone : Played → Type 0
+AreDone t = (p q : ℕ) → IsUpIn t p → IsUpIn t q → IsDone (state_of t.rehearsal) p q
+
 abbrev pub IsSubmission : Step → Type 0
 IsSubmission (Submit p c) = ⊤
 IsSubmission _ = ⊥
+
+-- the record is one that a world keeps, of a group that is no larger than a world's, and proposals aren't empty
+pub record IsOfWorld (w : Rehearsal) : Type 0 where
+  pub lawful : IsLawful w
+  pub few : w.setting.members ≤ MAX_MEMBERS
+  pub bound : 1 ≤ w.setting.bound
 
 -- the line was played where s was, and left t, and what it takes for all to be done there
 pub record IsSettled (s : Played) (who : Who) (set : List ℕ) (t : Played) : Type 0 where
