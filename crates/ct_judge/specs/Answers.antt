@@ -25,10 +25,11 @@ use Rattle.ct_judging.specs.Naming.{letter_name, listed}
 use Rattle.ct_judging.specs.Printing.{printed}
 use Rattle.ct_judging.specs.Reading.{misread_text}
 use Rattle.ct_judging.specs.Standing.{Standing}
+use Rattle.ct_judging.specs.Steps.{step_line}
 use Rattle.ct_judging.specs.Telling.{Explained, explained}
 use Rattle.ct_judging.specs.Wording.{numbered}
 use Rattle.ct_judging.specs.declared.misread.Misread.{Misread}
-use Rattle.ct_judge.specs.Steps.{enabled_steps, next_lines, step_line}
+use Rattle.ct_judge.specs.Steps.{enabled_steps, next_lines}
 
 -- ---- answers to questions
 

@@ -10,9 +10,10 @@ ghost use Rattle.ct_judging.specs.Missing.{missing_text, none_from_text};
 ghost use Rattle.ct_judging.specs.Telling.{claim_unmet, done_by_first, fault_in, goal_unmet, if_member_text, not_met_text};
 ghost use Rattle.ct_judging.specs.Telling.{not_reached_text, not_so_text, or_before, other_text, seen_text, step_fault, term_unmet};
 ghost use Rattle.ct_judging.specs.Telling.{tried, tried_of, untrue_text};
-ghost use Rattle.ct_judging.specs.Telling.{plain_text, stranger_text, unmet_text};
+ghost use Rattle.ct_judging.specs.Telling.{plain_text, stranger_text, unmet_text, unsettled_text};
 ghost use Rattle.ct_judging.specs.Wording.{behind};
 
+use crate::hindering::push_hindered;
 use crate::missing::{push_across, push_missing, push_none_from};
 use crate::refusing::push_refused;
 use crate::trying::behind_first;
@@ -21,6 +22,7 @@ use ct_grammar::{Act, Claim, Fact, Goal, Line, Pick, Play, Term, Text, When, Who
 use ct_names::Member;
 use ct_play::{LineFault, Stage, amount_of, ended, push_came_to, push_there, push_wanted, unmet};
 use ct_print::{push_claim, push_term};
+use ct_settled::hindrance_of;
 use std::alloc::{AllocError, Global};
 
 // The fault of the line.
@@ -215,7 +217,7 @@ fn push_goal_unmet(
     };
     match member {
         None => push_term_unmet(text, term),
-        Some(member) => push_claim_if(text, stage, member, &term.claim),
+        Some(member) => push_claim_if(alloc, text, stage, member, &term.claim),
     }
 }
 
@@ -240,6 +242,7 @@ fn seen_text(when: When) -> &'static str
 }
 
 fn push_claim_if(
+    alloc: Global,
     text: &mut String,
     stage: &Stage,
     member: Member,
@@ -248,14 +251,15 @@ fn push_claim_if(
     ensures { OnOk result (Adds text.old text.new (if_member_text stage.now member (claim_unmet stage.now member claim.now))) }
 {
     if stage.world().group().has(member) {
-        push_claim_unmet(text, stage, member, claim)
+        push_claim_unmet(alloc, text, stage, member, claim)
     } else {
         push_stranger(text, member)
     }
 }
 
-// The claim that is not true of the member, and what is there, where that is a value or a number.
+// The claim that is not true of the member; what is there, where that is a value or a number, or what stands in the way.
 fn push_claim_unmet(
+    alloc: Global,
     text: &mut String,
     stage: &Stage,
     member: Member,
@@ -270,8 +274,24 @@ fn push_claim_unmet(
             push_untrue(text, member, claim)?;
             push_number(text, ", there is ", amount_of(stage, member, *what))
         }
+        Claim::Settled => push_unsettled(alloc, text, stage, member, claim),
         _ => push_untrue(text, member, claim),
     }
+}
+
+// A claim that all is done, and what stands in the way.
+#[tactic(auto, unfolding(ct_judging::specs::Telling::unsettled_text))]
+fn push_unsettled(
+    alloc: Global,
+    text: &mut String,
+    stage: &Stage,
+    member: Member,
+    claim: &Claim,
+) -> Result<(), AllocError>
+    ensures { OnOk result (Adds text.old text.new (unsettled_text stage.now member claim.now)) }
+{
+    push_untrue(text, member, claim)?;
+    push_hindered(text, stage, hindrance_of(alloc, stage)?)
 }
 
 #[tactic(auto, unfolding(ct_judging::specs::Telling::untrue_text, ct_judging::specs::Wording::behind))]

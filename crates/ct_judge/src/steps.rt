@@ -5,7 +5,8 @@ ghost use Rattle.ct_text.specs.Adds.{Adds};
 ghost use Rattle.ct_model.specs.Cause.{cause};
 ghost use Rattle.ct_show.specs.State.{first_choices};
 ghost use Rattle.ct_judging.specs.Naming.{listed};
-ghost use Rattle.ct_judge.specs.Steps.{act_of, enabled_steps, line_or_dash, named, named_by, next_lines, receipt_behind, step_line};
+ghost use Rattle.ct_judging.specs.Steps.{act_of, named, named_by, step_line};
+ghost use Rattle.ct_judge.specs.Steps.{enabled_steps, line_or_dash, next_lines, receipt_behind};
 
 use ct_grammar::{Act, Line, Pick, Play, Who};
 use ct_model::Step;
@@ -19,8 +20,8 @@ use std::alloc::{AllocError, Global};
 // ---- the line of a step
 
 // Appends the line of the step.
-#[tactic(auto, unfolding(crate::specs::Steps::step_line))]
-fn push_step(text: &mut String, stage: &Stage, step: Step) -> Result<(), AllocError>
+#[tactic(auto, unfolding(ct_judging::specs::Steps::step_line))]
+pub(crate) fn push_step(text: &mut String, stage: &Stage, step: Step) -> Result<(), AllocError>
     ensures { OnOk result (Adds text.old text.new (step_line stage.now.rehearsal step)) }
 {
     let line = Line::Play(Play::Act(Who::One(step.member()), act_of(stage, step)));
@@ -28,7 +29,7 @@ fn push_step(text: &mut String, stage: &Stage, step: Step) -> Result<(), AllocEr
 }
 
 // What the member does in the step.
-fn act_of(stage: &Stage, step: Step) -> Act
+pub(crate) fn act_of(stage: &Stage, step: Step) -> Act
     ensures { result ≡ act_of stage.now.rehearsal step }
 {
     match step {
@@ -50,7 +51,7 @@ fn act_of(stage: &Stage, step: Step) -> Act
 }
 
 // The envelope, by what it carries and who sent it.
-#[tactic(auto, unfolding(crate::specs::Steps::named))]
+#[tactic(auto, unfolding(ct_judging::specs::Steps::named))]
 fn named(stage: &Stage, serial: Serial) -> Pick
     ensures { result ≡ named stage.now.rehearsal serial }
 {

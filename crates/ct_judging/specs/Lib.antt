@@ -1,3 +1,4 @@
+pub mod Hindering
 pub mod Judging
 pub mod Missing
 pub mod Naming
@@ -7,5 +8,6 @@ pub mod Refusing
 pub mod Rights
 pub mod Schedule
 pub mod Standing
+pub mod Steps
 pub mod Telling
 pub mod Wording

@@ -29,6 +29,8 @@ use Rattle.ct_play.specs.Turning.{ended}
 use Rattle.ct_play.specs.declared.line_fault.LineFault.{LineFault}
 use Rattle.ct_play.specs.declared.line_fault.LineFault.TheVariants.{NotUnderstood, NoMembers, Settled, NoSuchMember, NotThere, NoneFrom}
 use Rattle.ct_play.specs.declared.line_fault.LineFault.TheVariants.{Across, Refused, NotMet, Restless, NotSo, OutOfMemory, Board}
+use Rattle.ct_settled.specs.Hindrance.{hindrance}
+use Rattle.ct_judging.specs.Hindering.{hindered_text}
 use Rattle.ct_judging.specs.Judging.{taken}
 use Rattle.ct_judging.specs.Missing.{across_text, missing_text, none_from_text}
 use Rattle.ct_judging.specs.Printing.{printed}
@@ -56,11 +58,16 @@ unmet_text w p fact =
 unfoldable pub untrue_text : ℕ → Claim → List ℕ
 untrue_text p claim = numbered (codes "not met: member ") p ++ behind (codes ": expected ") (claim_text claim)
 
--- a claim that is not true of a member, and what is there, where that is a value or a number
+-- the same where not all is done, and what stands in the way
+unfoldable pub unsettled_text : Played → ℕ → Claim → List ℕ
+unsettled_text w p claim = untrue_text p claim ++ hindered_text w.rehearsal (hindrance w)
+
+-- a claim that is not true of a member; what is there, where that is a value or a number, or what stands in the way
 abbrev pub claim_unmet : Played → ℕ → Claim → List ℕ
 claim_unmet w p (claim.Fact fact) = unmet_text w p fact
 claim_unmet w p (claim.Amount what extent) =
     untrue_text p (claim.Amount what extent) ++ numbered (codes ", there is ") (amount_of w.rehearsal p what)
+claim_unmet w p claim.Settled = unsettled_text w p claim.Settled
 claim_unmet w p other = untrue_text p other
 
 -- what was seen of a term that is not about each of some members as they are now

@@ -1,6 +1,6 @@
 use Rattle.std.proofs.Common.{◌≡◌, ◌++◌, take}
 use Rattle.std.specs.Prelude.{codes, flat_map, string_bytes}
-use Rattle.ct_judge.specs.Steps.{step_line}
+use Rattle.ct_judging.specs.Steps.{step_line}
 use Rattle.ct_judge.proofs.steps.push_more.Given as goal
 
 abbrev pub invariant-loop-step : goal.invariant-loop-step
