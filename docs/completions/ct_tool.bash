@@ -7,7 +7,7 @@
 _ct_tool_words() {
     case $1 in
     '')
-        commands='check diagram find interact merge record report schedule shrink state steps walk help'
+        commands='check complete diagram find interact merge record report schedule shrink state steps walk help'
         options='-h --help -V --version'
         values=''
         operands='command'
@@ -16,6 +16,11 @@ _ct_tool_words() {
         options='--expect-reports --quiet -h --help'
         values=''
         operands='file+'
+        ;;
+    complete)
+        options='--json -h --help'
+        values=''
+        operands='file'
         ;;
     diagram)
         options='--from --to --columns --member --only -h --help'

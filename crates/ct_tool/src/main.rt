@@ -14,6 +14,7 @@ mod terminal;
 mod trials;
 
 use clap::{ArgMatches, Command};
+use ct_complete::complete_command;
 use ct_diagram::diagram_command;
 use ct_find::find_command;
 use ct_judge::{interact_command, record_command};
@@ -31,7 +32,7 @@ use ending::close;
 use host::Host;
 use searching::{find, walk};
 use sessions::{hold_session, merge};
-use showing::{diagram, record_schedule, schedule, shrink, view};
+use showing::{complete, diagram, record_schedule, schedule, shrink, view};
 use std::alloc::{AllocError, Global};
 use std::io::{self, ErrorKind};
 use std::process::ExitCode;
@@ -65,6 +66,7 @@ fn command<'a>(alloc: Global) -> Result<Command<'a>, AllocError> {
         .about("Makes runs of a group of members that can be made again, and shows runs")
         .subcommand_required(true)
         .subcommand(check_command(alloc)?)?
+        .subcommand(complete_command(alloc)?)?
         .subcommand(diagram_command(alloc)?)?
         .subcommand(find_command(alloc)?)?
         .subcommand(interact_command(alloc)?)?
@@ -86,6 +88,7 @@ fn call<R: Threads + Sync>(
 ) -> Result<(), ExitCode> {
     match matches.subcommand() {
         Some(("check", found)) => check_files(rt, found),
+        Some(("complete", found)) => complete(rt, found),
         Some(("diagram", found)) => diagram(rt, found),
         Some(("find", found)) => find(rt, threads, found),
         Some(("interact", found)) => hold_session(rt, found),

@@ -4,6 +4,7 @@ use crate::ending::done;
 use crate::named_file::NamedFile;
 use crate::trials::Trials;
 use clap::ArgMatches;
+use ct_complete::{CompleteFault, write_completed, write_obstacle};
 use ct_diagram::{diagram_window, draw};
 use ct_judge::{record, record_partial};
 use ct_listing::write_schedule;
@@ -43,6 +44,21 @@ pub(crate) fn schedule(rt: &HostRuntime, found: &ArgMatches<'_>) -> Result<(), E
     let mut file = NamedFile::open(rt, found)?;
     let mut writer = Counted::new(io::writer(rt));
     let ended = write_schedule(rt.alloc(), &mut file.reader, &mut writer);
+    file.written(rt, ended, writer.is_broken())?;
+    Ok(())
+}
+
+// Writes a record that goes on until all is done, and at wish as JSON what stands in the way.
+pub(crate) fn complete(rt: &HostRuntime, found: &ArgMatches<'_>) -> Result<(), ExitCode> {
+    let mut file = NamedFile::open(rt, found)?;
+    let mut writer = Counted::new(io::writer(rt));
+    let ended = write_completed(rt.alloc(), &mut file.reader, &mut writer);
+    if let Err(CompleteFault::Hindered(obstacle)) = &ended
+        && found.get_flag("json")
+    {
+        let told = write_obstacle(rt.alloc(), &mut writer, obstacle);
+        file.written(rt, told, writer.is_broken())?;
+    }
     file.written(rt, ended, writer.is_broken())?;
     Ok(())
 }

@@ -1,0 +1,16 @@
+use Rattle.std.proofs.Common.{◌∙◌, ◌++◌, ◌∷◌, [], ap}
+use Rattle.ct_model.specs.Rehearsal.{Rehearsal}
+use Rattle.ct_records.specs.Text.{record_text}
+use Rattle.ct_records.specs.View.{rehearsal_of}
+use Rattle.ct_settled.specs.Settled.{AreDone}
+use Rattle.ct_complete.proofs.Ending.{completed_is, staged_is}
+use Rattle.ct_complete.proofs.completing.completed.Goals as goal
+
+pub returns-in-None-clause-ok : goal.returns-in-None-clause-ok
+returns-in-None-clause-ok c =
+    let done : AreDone c.complete.new.stage = c.in_ok-complete.ensures.done c.in-None.is in
+    completed_is (rehearsal_of c.args.script.now) c.in_ok-stage.stage c.complete.new.stage c.in_ok-record_line-in-None.field-0.items
+    (staged_is c.setup.result c.deref.result.now (rehearsal_of c.args.script.now) c.in_ok-stage.stage c.in_ok-stage.ensures.ok
+    c.deref.ensures.value c.setup.ensures)
+    c.in_ok-replay.ensures.ok c.in_ok-complete.ensures.played done
+    (c.in_ok-record_line-in-None.ensures ∙ ap (λ (w : Rehearsal). record_text w ++ 10 ∷ []) c.world.ensures)

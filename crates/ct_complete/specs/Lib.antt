@@ -1,0 +1,4 @@
+pub mod Completing
+pub mod Faults
+pub mod Json
+pub mod Line
