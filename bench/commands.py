@@ -71,6 +71,7 @@ def commands(options, folder):
         ("check", ["check", record], None),
         ("diagram", ["diagram", "--from", str(options.steps - 399), "--to", last, record], None),
         ("schedule", ["schedule", record], None),
+        ("complete", ["complete", record], None),
         ("record", ["record", schedule], None),
         ("interact", ["interact"], schedule),
         ("merge", ["merge", *logs], None),

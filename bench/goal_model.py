@@ -10,7 +10,7 @@ from __future__ import annotations
 
 import re
 import sys
-from typing import Any, Callable, Dict, List, NamedTuple, Optional, Set, Tuple
+from typing import Any, Callable, Dict, Iterator, List, NamedTuple, Optional, Set, Tuple
 
 sys.dont_write_bytecode = True
 import model  # noqa: E402
@@ -18,6 +18,7 @@ from split import carried, value  # noqa: E402
 
 COUNTED = ("received", "decided", "delivered")
 MEASURED = ("round", "instance", "waiting")
+OWN = ("deliver", "follow", "begin", "choose", "adopt", "conclude", "enter")   # what a member may do of its own but suspect
 NUMBER = re.compile(r"\d+\Z")
 NAME = re.compile(r"(\d+)\.(\d+)\Z")
 REASON = re.compile(r"NoSuchMember|Crashed|NotWaiting|BadCommand|Busy|Nothing|Idle|WrongPhase|Decided|TooFew|NotLargest|NoProposal|"
@@ -189,14 +190,46 @@ def causes(words: List[str], wanted: Optional[str]) -> Claim:
     return lambda stage, p: stage.cause(name, p, *rest) == wanted
 
 
+def is_done(stage: Stage) -> bool:
+    """Whether those that are up have no instance open and delivered the same, and with it all that one of them received or submitted."""
+    up = {p: member for p, member in stage.members.items() if member.up}
+    return len({tuple(member.delivered) for member in up.values()}) <= 1 and all(
+        member.open is None and all(message in member.delivered for message in member.received)
+        and all((p, number) in member.delivered for number in range(1, member.submitted + 1)) for p, member in up.items())
+
+
+def own_steps(stage: Stage, p: int) -> Iterator[List[Any]]:
+    """What the member may do of its own, in a driver's order, but suspect a coordinator that is up."""
+    here = stage.members[p].open
+    best = sorted(heard(stage, p), key=lambda q: -stage.members[p].estimates[here.k, here.round][q][1])   # the largest ts first
+    for name in OWN:
+        for rest in [[q] for q in best] if name == "choose" else [[]]:
+            if stage.cause(name, p, *rest) is None:
+                yield [name, p, *rest]
+    if here and not stage.members[stage.coordinator(here.round)].up and stage.cause("suspect", p) is None:
+        yield ["suspect", p]
+
+
+def is_at_rest(stage: Stage) -> bool:
+    """Whether nothing waits at those that are up, and of their own they could at most suspect a coordinator that is up."""
+    return not any(member.line or any(own_steps(stage, p)) for p, member in stage.members.items() if member.up)
+
+
+BARE: Dict[str, Claim] = {
+    "up": lambda stage, p: stage.members[p].up,
+    "crashed": lambda stage, p: not stage.members[p].up,
+    "idle": lambda stage, p: stage.members[p].open is None,
+    "settled": lambda stage, p: not stage.members[p].up or is_done(stage),
+    "stuck": lambda stage, p: stage.members[p].up and is_at_rest(stage) and not is_done(stage),
+}
+
+
 def claim(words: List[str]) -> Claim:
     """The claim of these words."""
     word, rest = words[0], words[1:]
     text = " ".join(words)
-    if word in ("up", "crashed") and not rest:
-        return lambda stage, p: stage.members[p].up == (word == "up")
-    if word == "idle" and not rest:
-        return lambda stage, p: stage.members[p].open is None
+    if word in BARE and not rest:
+        return BARE[word]
     if text in ("suspects up", "chooses unseen", "concludes again"):
         return lambda stage, p: stage.actor == p and (text,) in stage.events
     if word == "follows" and len(rest) == 1:

@@ -49,6 +49,8 @@ def by_serial(made):
     record = json.loads(made)
     yield f"members {record['n']}"
     yield f"cells {record['cells']}"
+    if "batch" in record:
+        yield f"batch {record['batch']}"
     for name, member, *rest in record["steps"]:
         if name == "submit":
             rest = rest[0]

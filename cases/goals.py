@@ -1,7 +1,8 @@
 #!/usr/bin/env python3
 """Checks `ct_tool find` and `ct_tool shrink` over many goals: what is found is the same with 1, 2 and 4 jobs, and the least of the seeds
 by the model of bench/, and so is what is counted; what is left of a run is a run that shows its goal, and no longer does without any of
-its lines; the smallest run that is left of several walks is that of one after the other; the table of docs/GOALS.md is right.
+its lines; the smallest run that is left of several walks is that of one after the other; the table of docs/GOALS.md is right; random runs
+are settled, stuck and completed as the model says.
 
     goals.py CT_TOOL        the last line is N passed, M failed
 """
@@ -27,6 +28,10 @@ JOBS = ("1", "2", "4")
 SECONDS = 60
 COUNTED = 30    # seeds that the model counts
 MODELLED = 4   # that the model goes through where nothing is found; before a seed that is found it goes through all
+
+RUNS = 100     # random runs, in which each of KINDS is seen
+KINDS = {"settled", "stuck", "waiting", "allowed", "limited", "left", "outvoted", "lost", "completed",
+         *(f"not completed ({kind})" for kind in ("limited", "outvoted", "lost"))}
 
 QUICK = "--members 3 --turns 60"
 LOSSY = "--members 3 --turns 300 --rate 32 --lose 40 --repeat 80 --batch 1"
@@ -79,6 +84,7 @@ CASES = [Case(goal, options, first, last, is_found) for options, first, last, is
         any instance >= 30
         any decided 1 and never any instance >= 1
         any refuses choose Crashed
+        any stuck
     """),
     (LOSSY, 1, 1000, True, """
         any chooses unseen
@@ -94,11 +100,15 @@ CASES = [Case(goal, options, first, last, is_found) for options, first, last, is
         any table 0=1
         all idle and all delivered count >= 2
         ever 1 waits dec 1/2 from 3
+        any stuck
+        any stuck and any decided 1
+        all settled and any decided 2
     """),
     (LOSSY, 1, 60, False, """
         any decided count >= 9
         all acked 1,2,3 and all instance >= 1
         any delivered 1.2 before 1.1 and any delivered 1.1 before 1.2
+        any settled and any stuck
     """),
     (CRASHED, 1, 400, True, """
         2 crashed and any delivered count >= 1
@@ -107,14 +117,17 @@ CASES = [Case(goal, options, first, last, is_found) for options, first, last, is
         any crashed and any refuses begin Crashed
         never any suspects up and any decided 1
         ever 2 phase Gather and 2 crashed
+        any crashed and all settled and any delivered count >= 1
     """),
     (CRASHED, 1, 40, False, """
         1 crashed
         all delivered count >= 8
         any chooses unseen and never any round >= 2
+        any stuck
     """),
     (CALM, 1, 400, True, """
         all delivered count >= 4
+        all settled and all delivered count >= 4
         2 delivered 1.1 before 2.1
         any decided 1 and never any round >= 3
         any decided 1:1.1
@@ -129,7 +142,7 @@ CASES = [Case(goal, options, first, last, is_found) for options, first, last, is
 NO_GOALS = [
     "", "any", "up", "ever", "any round", "any round >=", "any round >= many", "any rounds >= 4", "any round >= 4 and", "and any up",
     "any up and and any up", "nobody up", "any suspects", "any suspects down", "any follows", "any chooses seen", "never ever any up",
-    "any refuses choose Nothingness", "any delivered 1 before 2.1", "1, 3 up",
+    "any settle", "any settled 1", "any stuck up", "any refuses choose Nothingness", "any delivered 1 before 2.1", "1, 3 up",
 ]
 
 # What is counted: goals, and the options of the walks.
@@ -137,6 +150,7 @@ TALLIES = [
     Case("any round >= 5", QUICK, 1, COUNTED, True),
     Case("any decided 2", LOSSY, 1, COUNTED, True),
     Case("any chooses unseen", LOSSY, 1, COUNTED, True),
+    Case("any stuck", LOSSY, 1, COUNTED, True),
     Case("any round >= 90", QUICK, 1, COUNTED, False),
     Case("any suspects up", CALM, 7, 7, True),
     Case("any suspects up", CALM, 9, 9, False),
@@ -160,6 +174,8 @@ SHRUNK = [
     ("any delivered count >= 2 and any delivered count 0", LOSSY),
     ("2 crashed and any delivered count >= 1", CRASHED),
     ("any decided 1 and never any suspects up", LOSSY),
+    ("any stuck", LOSSY),
+    ("all settled and any decided 1", CALM),
 ]
 
 
@@ -345,6 +361,17 @@ def faults_of_rest(tool: str) -> List[str]:
     return [] if is_right else [f"status {done.returncode}: {done.stderr.decode()!r}"]
 
 
+def faults_of_runs(tool: str) -> List[str]:
+    """Random runs are what the model says, and each kind of them is there."""
+    done = shrink.ran([sys.executable, os.path.join(HERE, "..", "bench", "rest.py"), tool, "0", str(RUNS)])
+    told = done.stdout.decode()
+    seen = re.fullmatch(rf"{RUNS} runs: (.*); 0 differences\n", told)
+    if done.returncode or not seen:
+        return [told or done.stderr.decode()]
+    missing = KINDS - {kind.partition(" ")[2] for kind in seen.group(1).split(", ")}
+    return [f"none is {', '.join(sorted(missing))}"] if missing else []
+
+
 def faults_of_row(tool: str, options: List[str], row: "shrink.Entry") -> List[str]:
     """The row of docs/GOALS.md has what is found and what is left."""
     status, record, told = find(tool, Case(row.goal, " ".join(options), 1, row.seed, True))
@@ -369,6 +396,7 @@ def main() -> int:
         checks.append((f"shrink {goal}", lambda goal=goal, walks=walks: faults_of_shrunk(tool, goal, walks)))
     checks.append(("what is no goal", lambda: faults_of_words(tool)))
     checks.append(("shrink what is not shown", lambda: faults_of_rest(tool)))
+    checks.append(("random runs", lambda: faults_of_runs(tool)))
     for row in rows:
         checks.append((f"docs/GOALS.md, {row.goal}", lambda row=row: faults_of_row(tool, options, row)))
     failed = 0

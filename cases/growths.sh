@@ -229,7 +229,7 @@ for n in 47 70; do
 done
 
 # Each subcommand of the tool. A session gives its answers one by one, and a check tells a record's fault behind its name.
-for words in state report diagram steps schedule; do
+for words in complete state report diagram steps schedule; do
     tool_calls is_whole suspicion.json "$words"
 done
 for words in state steps; do
@@ -244,6 +244,8 @@ printf '%s\n' 'members 1' '1 submit set 0 7' 'all turns until any decided 1 and 
     'expect ever any round >= 1 and any delivered count 0' >"$folder/goals.schedule"
 tool_calls is_whole "$folder/goals.schedule" record
 tool_calls is_session "$folder/goals.schedule" interact
+printf '%s\n' 'members 2' '1 submit set 0 7' '2 lose data 1.1' 'all settle' 'expect any stuck' 'expect all settled' >"$folder/lost.schedule"
+tool_calls is_whole "$folder/lost.schedule" record
 tool_calls is_whole /dev/null walk --members 3 --turns 20 --submit 2 --until 'any round >= 2 and never any crashed'
 tool_calls is_whole /dev/null walk --members 3 --turns 5 --find 'round 9' --seeds 1..2
 tool_calls is_whole /dev/null find --members 3 --turns 20 --submit 2 --goal 'any round >= 2' --seeds 1..3 --jobs 2
