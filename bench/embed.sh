@@ -3,10 +3,10 @@
 #
 #     bench/embed.sh [--steps N] [--lines N] [--beside PROGRAM] [CT_TOOL]
 #
-# CT_TOOL: the built program; crates/ct_tool/out/ct_tool if left out. bindings/build.sh has made the libraries before; cc, cargo and
-# python3 are on the path, and go where it is to be timed. --steps: of the record whose steps are typed calls (1,000,000 if left out);
-# --lines: of the schedule that is told line by line (200,000). --beside: a program that replays the record on its standard input, reading
-# it too. The runs are of the whole algorithm of five members; each row of the table is the best of three.
+# CT_TOOL: the built program; crates/ct_tool/out/ct_tool if left out. bindings/build.sh has made the libraries before, page/build.sh the
+# modules; cc, cargo and python3 are on the path, and go and node where they are to be timed. --steps: of the record whose steps are typed
+# calls (1,000,000 if left out); --lines: of the schedule that is told line by line (200,000). --beside: a program that replays the record
+# on its standard input, reading it too. The runs are of the whole algorithm of five members; each row of the table is the best of three.
 set -euo pipefail
 
 here=$(cd "$(dirname "$0")" && pwd)
@@ -55,6 +55,9 @@ cmp "$folder/printed" "$folder/long/record.json"
 best 'typed steps, Python' python3 "$bindings/python/tests/steps.py" "$folder/long/steps_taken"
 if command -v go >/dev/null; then
     best 'typed steps, Go' env -C "$bindings/go" CT_STEPS="$folder/long/steps_taken" sh -c 'go test -v -count=1 -run Steps . >&2'
+fi
+if command -v node >/dev/null; then
+    best 'typed steps, node' node --expose-gc "$bindings/node/tests/asked.js" steps "$folder/long/steps_taken"
 fi
 best 'typed steps over a pipe, Python' env CT_LIB= python3 "$bindings/python/tests/steps.py" "$folder/short/steps_taken"
 best 'lines, C' "$folder/lines" "$folder/short/serials_told"

@@ -31,7 +31,7 @@ objcopy --wildcard --keep-global-symbol='ct_*' "$work/ct.o"
 rm -f "$work/libct.a"
 ar rcsD "$work/libct.a" "$work/ct.o"
 echo '{ global: ct_*; local: *; };' >"$work/exports"
-cc -shared -o "$work/libct.so" -Wl,--whole-archive "$work/libct.a" -Wl,--no-whole-archive -Wl,-soname,libct.so \
+cc -shared -o "$work/libct.so" -Wl,--whole-archive "$work/libct.a" -Wl,--no-whole-archive -Wl,-soname,libct.so.0 \
     -Wl,--version-script,"$work/exports" -Wl,--gc-sections -Wl,-z,text -Wl,-z,relro,-z,now -Wl,-z,noexecstack
 mv "$work/libct.a" "$work/libct.so" "$out"
 ls -l "$out/libct.a" "$out/libct.so"

@@ -5,17 +5,18 @@
 #
 #     bindings/test.sh [CT_TOOL]
 #
-# CT_TOOL: the built program; crates/ct_tool/out/ct_tool if left out. bindings/build.sh has made the libraries before. Needs cc, cargo and
-# python3, and installs nothing: what needs go, pip, C++, mypy or pytest is left out, and told, where they aren't there; with the variable
-# NOTHING_LEFT_OUT it counts as failed. The variable LINES_TOLD gives another number of lines than 200,000, DRIVE_SEEDS another number of
-# schedules of each right member than 25. Ends with a line `N passed, M failed`, and status 1 where something failed.
+# CT_TOOL: the built program; crates/ct_tool/out/ct_tool if left out. bindings/build.sh has made the libraries before, page/build.sh the
+# modules. Needs cc, cargo and python3, and installs nothing: what needs go, node, tsc, pip, C++, mypy or pytest is left out, and told,
+# where they aren't there; with the variable NOTHING_LEFT_OUT it counts as failed. The variable LINES_TOLD gives another number of lines
+# than 200,000, DRIVE_SEEDS another number of schedules of each right member than 25. Ends with a line `N passed, M failed`, and status 1
+# where something failed.
 set -u
 
 here=$(cd "$(dirname "$0")" && pwd)
 tool=$(realpath "${1:-$here/../crates/ct_tool/out/ct_tool}")
 lines=${LINES_TOLD:-200000}
 cd "$here" || exit 2
-for it in "$tool" out/libct.a out/libct.so; do
+for it in "$tool" out/libct.a out/libct.so node/out/ct.wasm; do
     [[ -e $it ]] || { echo "bindings/test.sh: no $it" >&2; exit 2; }
 done
 folder=$(mktemp -d)
@@ -72,6 +73,7 @@ sys.exit(done.returncode or most > 32_000)' "$@"
 
 # same LANGUAGE COMMAND..: it answers as over a pipe, and gives back what it kept.
 names=()
+bound=(bounded)
 same() {
     local language=$1
     shift
@@ -79,7 +81,7 @@ same() {
     check "worlds, in $language" gives "$folder/worlds_answered" "$@" worlds "$folder/worlds_asked"
     if [[ $language != C ]]; then
         check "sessions, in $language" gives "$folder/sessions_answered" "$@" sessions "$folder/sessions_asked"
-        check "10,000 worlds and sessions, in $language" bounded "$@" many 10000
+        check "10,000 worlds and sessions, in $language" "${bound[@]}" "$@" many 10000
     fi
 }
 
@@ -191,6 +193,16 @@ if has go 'Go'; then
     check 'building asked in Go' env -C go go build -o "$folder/asked_in_go" ./asked
     same Go "$folder/asked_in_go"
     check 'lines, in Go' gives "$folder/answers" "$folder/asked_in_go" lines "$folder/lines_told"
+fi
+
+if has node 'node'; then
+    bound=() # what the module keeps is bounded, and told there
+    same node node --expose-gc node/tests/asked.js
+    check 'lines, in node' gives "$folder/answers" node node/tests/asked.js lines "$folder/lines_told"
+    check 'lines at once, in node' gives "$folder/answers" node node/tests/asked.js lines "$folder/lines_told" once
+    has tsc 'types in node' && check 'types in node' tsc --strict --noEmit --target es2020 --moduleResolution node16 --module node16 \
+        node/tests/types.ts
+    check 'steps, in node' gives "$folder/record.json" node node/tests/asked.js steps "$folder/steps_taken"
 fi
 
 check 'numbers and names' python3 tests/names.py "${names[@]}"

@@ -3,8 +3,7 @@
 
     assemble.py MODULE TOOL OUT     MODULE, TOOL: the WebAssembly modules of the library and of ct_tool; OUT: the page
     assemble.py --again PAGE        makes the page anew, with the modules that it has
-    assemble.py --check PAGE        status 1 where that would change it
-    assemble.py --differ PAGE OTHER tells in what the modules of the first page are others than those of the second
+    assemble.py --differ PAGE OTHER tells in what the first page is another than the second
 """
 import base64
 import gzip
@@ -19,12 +18,13 @@ from typing import List
 
 HERE = os.path.dirname(os.path.abspath(__file__))
 SOURCES = os.path.join(HERE, "src")
+PACKAGE = os.path.join(HERE, "..", "bindings", "node")  # what the page and all others have of the modules
 EXAMPLES = [os.path.join(HERE, "..", "examples"), os.path.join(HERE, "..", "examples", "python")]
-MODULE_SOURCES = ["crates", *(f"page/{it}" for it in ("module.sh", "module.c", "heap.c", "wide.c", "system.c", "bytes_of.ll"))]
+MODULE_SOURCES = ["crates", *(f"page/{it}" for it in ("module.sh", "module.c", "heap.c", "wide.c", "system.c", "bytes_of.ll", "lower.py"))]
 MODULES = {"module": "LIBRARY", "tool": "PROGRAM"}
 MADE = re.compile(r'<p id="made">.*?</p>', re.S)
 FIRST = "boot.js"
-IMPORT = re.compile(r'^import \{ ([^}]*) \} from "\./([a-z_]+\.js)";\n', re.M)
+IMPORT = re.compile(r'^import \{ ([^}]*) \} from "(?:\./|\.\./\.\./bindings/node/)([a-z_]+\.js)";\n', re.M)
 EXPORT = re.compile(r"^export ((?:async )?(?:class|function|const|let) )(\w+)", re.M)
 
 
@@ -33,9 +33,14 @@ def read(*names: str) -> str:
         return file.read()
 
 
+def script(name: str) -> str:
+    """The text of a module of the page, or of the package that it stands on."""
+    return read(SOURCES if os.path.exists(os.path.join(SOURCES, name)) else PACKAGE, name)
+
+
 def order(name: str, before: list) -> list:
     """The modules that this one imports, directly or not, and then itself; each once."""
-    for other in [found[1] for found in IMPORT.findall(read(SOURCES, name))]:
+    for other in [found[1] for found in IMPORT.findall(script(name))]:
         if other not in before:
             order(other, before)
     return before.append(name) or before
@@ -43,7 +48,7 @@ def order(name: str, before: list) -> list:
 
 def scope(name: str) -> str:
     """A module as a block of its own, that answers what it exports."""
-    text = read(SOURCES, name)
+    text = script(name)
     names = [found[1] for found in EXPORT.findall(text)]
     text = IMPORT.sub(lambda found: f'const {{ {found[1]} }} = modules["{found[2]}"];\n', text)
     text = EXPORT.sub(r"\1\2", text)
@@ -105,6 +110,7 @@ def page(module: str, tool: str, made: List[str]) -> str:
         "/*DIAGRAM*/": read(SOURCES, "diagram.css"),
         "<!--TRUST-->": read(SOURCES, "trust.html"),
         "<!--SEARCH-->": read(SOURCES, "search.html"),
+        "<code>VERSION<": f"<code>{read(HERE, '..', 'VERSION').strip()}<",
         "<code>COMMIT<": f"<code>{made[0]}<",
         "<code>KIT<": f"<code>{made[1]}<",
         "<code>LIBRARY<": f"<code>{sum_of(module)}<",
@@ -137,27 +143,31 @@ def made_of(path: str) -> List[str]:
     return re.findall(r"<code>([^<]*)</code>", found[0]) if found else ["unknown", "unknown"]
 
 
-def again(path: str) -> str:
-    """The page of these parts with the modules of the one that is there."""
-    return page(*modules(path), made_of(path)[:2])
+def without_modules(path: str) -> str:
+    """What a page shows and does, without its modules and what it tells of them."""
+    text = MADE.sub("", read(path))
+    for module in modules(path):
+        text = text.replace(module, "")
+    return text
 
 
 def differ(path: str, other: str) -> None:
-    """Tells which modules of a page are others than those of the other page."""
+    """Tells in what a page is another than the other page."""
     there, here = made_of(path), made_of(other)
     for name, *sums in zip(("library", "ct_tool"), map(sum_of, modules(path)), map(sum_of, modules(other))):
         if sums[0] != sums[1]:
             print(f"{path} has another {name} than {other}: {sums[0][:12]}, of commit {there[0]} with {there[1]}, and not {sums[1][:12]}, "
                   f"of commit {here[0]} with {here[1]}")
+    if without_modules(path) != without_modules(other):
+        print(f"{path} has other scripts, styles, texts or examples than {other}")
 
 
 def main() -> int:
     *words, path = sys.argv[1:]
-    if words == ["--check"]:
-        return 0 if again(path) == read(path) else 1
     if words[:1] == ["--differ"]:
         return differ(words[1], path) or 0
-    text = again(path) if words == ["--again"] else page(*(packed(it) for it in words), [commit(), kit()])
+    again = words == ["--again"]
+    text = page(*modules(path), made_of(path)[:2]) if again else page(*(packed(it) for it in words), [commit(), kit()])
     with open(path, "w", encoding="utf-8") as file:
         file.write(text)
     return 0

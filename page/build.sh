@@ -1,5 +1,5 @@
 #!/usr/bin/env bash
-# Makes the page of the proved library and of the proved program ct_tool.
+# Makes the WebAssembly modules of the proved library and of the proved program ct_tool, in bindings/node/out, and the page of them.
 #
 #     page/build.sh [OUT]
 #
@@ -25,8 +25,9 @@ module() {
     bash "$here/module.sh" "$bitcode" "${@:2}"
 }
 
-mkdir -p "$here/out"
-module ct_embed "$here/out/ct.wasm"
-module ct_tool "$here/out/tool.wasm" program
-python3 "$here/assemble.py" "$here/out/ct.wasm" "$here/out/tool.wasm" "$out"
-ls -l "$here/out/ct.wasm" "$here/out/tool.wasm" "$out"
+modules=$here/../bindings/node/out
+mkdir -p "$modules" "$(dirname "$out")"
+module ct_embed "$modules/ct.wasm"
+module ct_tool "$modules/tool.wasm" program
+python3 "$here/assemble.py" "$modules/ct.wasm" "$modules/tool.wasm" "$out"
+ls -l "$modules/ct.wasm" "$modules/tool.wasm" "$out"

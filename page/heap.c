@@ -41,7 +41,8 @@ static int reaches(u64 place) {
     if (place <= end)
         return 1;
     u64 pages = (place - end + PAGE - 1) / PAGE;
-    u64 more = pages < LEAST_PAGES ? LEAST_PAGES : pages;
+    u64 least = end / PAGE < LEAST_PAGES ? LEAST_PAGES : end / PAGE; /* as much again: engines look through all objects each time */
+    u64 more = pages < least ? least : pages;
     if (!heap_grow(more)) {
         if (!heap_grow(pages))
             return 0;

@@ -1,6 +1,7 @@
 #!/usr/bin/env bash
 # Makes the WebAssembly module of the proved library, or of the proved program ct_tool: compiles the LLVM bitcode of its build once
-# more, for 64-bit WebAssembly, with the clang of the toolchain, and links it with the heap in C, and a program with its system in C.
+# more, for 64-bit WebAssembly, with the clang of the toolchain, links it with the heap in C, and a program with its system in C, and lowers
+# the memory to 32 bits (lower.py).
 #
 #     page/module.sh BITCODE OUT [program]
 #
@@ -12,7 +13,7 @@ bitcode=$(realpath "$1")
 out=$(realpath -m "$2")
 parts=(heap module wide)
 level=-O3
-mapfile -t calls < <(grep -hoE '\bct_[a-z_]+\(' "$here"/src/*.js | sort -u | sed 's/\(.*\)(/--export=\1/') # those that the page makes
+mapfile -t calls < <(sed -n 's/^[a-z].*[ *]\(ct_[a-z_]*\)(.*/--export=\1/p' "$here/../bindings/ct.h")
 if [[ ${3:-} == program ]]; then
     parts+=(system)
     calls=(--export=main)
@@ -46,4 +47,5 @@ done
 ln -s "$kit/toolchain/bin/ld.lld" wasm-ld
 # The stack lies below all else, so that a call which is too deep ends the module, and is as large as a program's on Linux.
 ./wasm-ld -m wasm64 --no-entry --gc-sections --strip-all --stack-first -z stack-size=8388608 "${calls[@]}" \
-    library.o "${parts[@]/%/.o}" -o "$out"
+    library.o "${parts[@]/%/.o}" -o module.wasm
+python3 "$here/lower.py" module.wasm "$out"

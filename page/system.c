@@ -1,46 +1,47 @@
-/* What the program ct_tool asks of an operating system, in its module: words, standard input, output and error, files to be read, and a
-   clock, which the page has for it; of all else there is none, and each call answers so, with the number that Linux would give. No proof
-   covers it. Each function is declared as the program declares it, since WebAssembly calls none of another type. */
+/* What the program ct_tool asks of an operating system, in its module: words, variables, files and streams, and a clock, which whoever runs
+   the module has for it (bindings/node/system.js); of all else there is none, and each call answers so, with the number that Linux would
+   give. No proof covers it. Each function is declared as the program declares it, since WebAssembly calls none of another type. */
 #include "heap.h"
 
 #define NO_CALL 38 /* ENOSYS */
-#define NO_FILE 2 /* ENOENT */
-#define NOT_OPEN 9 /* EBADF */
-#define TOO_MANY 24 /* EMFILE */
 #define NO_SEEK 29 /* ESPIPE */
 #define NO_THREAD 11 /* EAGAIN */
-#define STANDARD_ERROR 2
-#define WRITING 3 /* O_WRONLY, O_RDWR */
-#define FIRST_FILE 3 /* behind the standard streams */
-#define MOST_OPEN 32
+#define BY_DESCRIPTOR 0x1000 /* AT_EMPTY_PATH */
 #define NANOS 1000000000.0
+#define MILLIS 1000.0
 
 typedef long long i64;
 
-#define FROM_PAGE(name) __attribute__((import_module("page"), import_name(name)))
+#define FROM_HOST(name) __attribute__((import_module("system"), import_name(name)))
 
-/* The page's part: a word's bytes, or -1 without such a word, or -2 without room; how many bytes were read of standard input; the number of
-   the file of a name, or -1; how many bytes were read of a file, from a place on; bytes that are written; nanoseconds since some moment;
-   and the end, which it does not return from. */
-FROM_PAGE("word") i64 page_word(u64 number, char *place, u64 room);
-FROM_PAGE("read") i64 page_read(char *place, u64 room);
-FROM_PAGE("file") i64 page_file(const char *name, u64 length);
-FROM_PAGE("part") i64 page_part(i64 file, u64 from, char *place, u64 room);
-FROM_PAGE("write") void page_write(int file, const char *place, u64 size);
-FROM_PAGE("clock") double page_clock(void);
-FROM_PAGE("end") _Noreturn void page_end(int status);
+/* The host's part. A word's bytes, or a variable's: how many they are, or -1 without such a one, or -2 without room. Of files and streams:
+   what Linux would answer, and a fault by its number below 0; what is known of a file is its mode, its number, its size and its device, of
+   the one of a name where the descriptor is -1. Nanoseconds since some moment; a wait; and the end, which it does not return from. */
+FROM_HOST("word") i64 host_word(u64 number, char *place, u64 room);
+FROM_HOST("variable") i64 host_variable(const char *name, u64 length, char *place, u64 room);
+FROM_HOST("open") i64 host_open(const char *name, u64 length, int flags);
+FROM_HOST("read") i64 host_read(int file, char *place, u64 room);
+FROM_HOST("write") i64 host_write(int file, const char *place, u64 size);
+FROM_HOST("close") i64 host_close(int file);
+FROM_HOST("stat") i64 host_stat(int file, const char *name, u64 length, u64 *known);
+FROM_HOST("is_terminal") int host_is_terminal(int file);
+FROM_HOST("clock") double host_clock(void);
+FROM_HOST("sleep") void host_sleep(double millis);
+FROM_HOST("end") _Noreturn void host_end(int status);
 
 struct time {
     i64 seconds;
     i64 nanos;
 };
 
-/* The files that are read, behind the standard streams: which of the page's, and how much of it was. */
-static struct {
-    int is_open;
-    i64 file;
-    u64 at;
-} files[MOST_OPEN];
+/* Linux's struct statx. */
+struct known {
+    unsigned mask, block, attributes[2], links, user, group;
+    unsigned short mode, gap;
+    u64 number, size, rest[10];
+    unsigned made_of[2], device[2];
+    u64 more[14];
+};
 
 static int fault;
 
@@ -50,52 +51,70 @@ static int refused(int why) {
     return -1;
 }
 
+/* What the host answered. */
+static i64 answered(i64 answer) { return answer < 0 ? refused((int)-answer) : answer; }
+
+static u64 length_of(const char *text) {
+    u64 length = 0;
+    while (text[length])
+        length++;
+    return length;
+}
+
 int rattle_errno(void) { return fault; }
 
 void rattle_set_errno(int why) { fault = why; }
 
-i64 rattle_arg(u64 number, char *place, u64 room) { return page_word(number, place, room); }
+i64 rattle_arg(u64 number, char *place, u64 room) { return host_word(number, place, room); }
 
-i64 rattle_env(const char *name, char *place, u64 room) {
-    (void)name, (void)place, (void)room;
-    return -1;
-}
+i64 rattle_env(const char *name, char *place, u64 room) { return host_variable(name, length_of(name), place, room); }
 
 i64 rattle_env_at(u64 number, char *place, u64 room) {
     (void)number, (void)place, (void)room;
     return -1;
 }
 
-static int is_open(int file) { return file >= FIRST_FILE && file < MOST_OPEN && files[file].is_open; }
+int open(const char *path, int flags, ...) { return (int)answered(host_open(path, length_of(path), flags)); }
 
-i64 read(int file, char *place, u64 room) {
-    if (file == 0)
-        return page_read(place, room);
-    if (!is_open(file))
-        return refused(NOT_OPEN);
-    i64 taken = page_part(files[file].file, files[file].at, place, room);
-    files[file].at += (u64)taken;
-    return taken;
-}
+i64 read(int file, char *place, u64 room) { return answered(host_read(file, place, room)); }
 
-i64 write(int file, const char *place, u64 size) {
-    page_write(file, place, size);
-    return (i64)size;
-}
+i64 write(int file, const char *place, u64 size) { return answered(host_write(file, place, size)); }
 
 i64 __write(int file, const char *place, u64 size) { return write(file, place, size); }
 
-int isatty(int file) { return file == STANDARD_ERROR; }
+int close(int file) { return (int)answered(host_close(file)); }
+
+int isatty(int file) { return host_is_terminal(file); }
+
+i64 lseek(int file, i64 offset, int from) {
+    (void)file, (void)offset, (void)from;
+    return refused(NO_SEEK);
+}
+
+int statx(int folder, const char *path, int flags, unsigned mask, struct known *known) {
+    u64 found[4]; /* mode, number, size, device */
+    if (answered(host_stat(flags & BY_DESCRIPTOR ? folder : -1, path, length_of(path), found)) < 0)
+        return -1;
+    *known = (struct known){.mask = mask, .mode = (unsigned short)found[0], .number = found[1], .size = found[2]};
+    known->device[0] = (unsigned)(found[3] >> 32), known->device[1] = (unsigned)found[3];
+    return 0;
+}
 
 int clock_gettime(int clock, struct time *time) {
-    double now = page_clock();
+    double now = host_clock();
     (void)clock;
     time->seconds = (i64)(now / NANOS);
     time->nanos = (i64)(now - (double)time->seconds * NANOS);
     return 0;
 }
 
-_Noreturn void _exit(int status) { page_end(status); }
+int nanosleep(const struct time *asked, struct time *left) {
+    (void)left;
+    host_sleep((double)asked->seconds * MILLIS + (double)asked->nanos * MILLIS / NANOS);
+    return 0;
+}
+
+_Noreturn void _exit(int status) { host_end(status); }
 
 _Noreturn void abort(void) { __builtin_trap(); }
 
@@ -104,39 +123,6 @@ void *malloc(u64 n) { return heap_take(n); }
 void free(void *place) {
     if (place)
         heap_give(place);
-}
-
-/* Files are read from their beginnings on; there is nothing else to know of them, and none can be made. */
-int open(const char *path, int flags, ...) {
-    u64 length = 0;
-    while (path[length])
-        length++;
-    i64 found = flags & WRITING ? -1 : page_file(path, length);
-    if (found < 0)
-        return refused(NO_FILE);
-    for (int file = FIRST_FILE; file < MOST_OPEN; file++)
-        if (!files[file].is_open) {
-            files[file].is_open = 1, files[file].file = found, files[file].at = 0;
-            return file;
-        }
-    return refused(TOO_MANY);
-}
-
-int close(int file) {
-    if (!is_open(file))
-        return refused(NOT_OPEN);
-    files[file].is_open = 0;
-    return 0;
-}
-
-i64 lseek(int file, i64 offset, int from) {
-    (void)file, (void)offset, (void)from;
-    return refused(NO_SEEK);
-}
-
-int statx(int folder, const char *path, int flags, unsigned mask, void *known) {
-    (void)folder, (void)path, (void)flags, (void)mask, (void)known;
-    return refused(NO_CALL);
 }
 
 /* One processor, and no second thread. */
@@ -192,11 +178,6 @@ int sched_getaffinity(int process, u64 size, void *processors) {
 
 i64 sysconf(int name) {
     (void)name;
-    return refused(NO_CALL);
-}
-
-int nanosleep(const struct time *asked, struct time *left) {
-    (void)asked, (void)left;
     return refused(NO_CALL);
 }
 

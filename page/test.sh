@@ -1,6 +1,6 @@
 #!/usr/bin/env bash
-# Tests the page that page/build.sh made in page/out, and that the one that is kept, page/ct.html, is made of the same scripts and answers
-# the same: in Chromium, from the disk. It tells where the one that is kept has other modules, of which commit, and made with which kit.
+# Tests the page that page/build.sh made in page/out, in Chromium, from the disk, and what it does without a browser under node. It tells in
+# what that of the last release, page/ct.html, is another one.
 #
 #     page/test.sh [CT CT_TOOL]
 #
@@ -47,13 +47,13 @@ wide() {
 
 check 'the heap under ASan' heap
 check 'numbers of 128 bits' wide
-check 'the page that is kept is made of these scripts and examples' python3 "$here/assemble.py" --check "$here/ct.html"
+check 'the page without a browser' node --test "$here/tests/run.test.js"
 (cd "$here/.." && python3 page/assemble.py --differ page/ct.html page/out/ct.html)
 check 'lines' python3 "$here/../bindings/tests/inputs.py" "$tool" "$folder" --steps "${LINES_TOLD:-200000}" --lossy
 # Debian's packages are of Debian's Python.
 python=python3
 python3 -c 'import selenium' 2>/dev/null || python=/usr/bin/python3
-tests=("$python" "$here/tests/browser.py" "$here/out/ct.html" "$here/ct.html" "$ct" "$tool" "$folder")
+tests=("$python" "$here/tests/browser.py" "$here/out/ct.html" "$ct" "$tool" "$folder")
 "${tests[@]}" ${SHOTS:+"$SHOTS"} | tee "$folder/browser"
 if ! command -v firefox-esr >/dev/null; then
     echo 'left out, as there is no firefox-esr: the page in Firefox'

@@ -1,14 +1,15 @@
 // Package malletochre is a rehearsal of Chandra and Toueg's atomic broadcast, in process, to test implementations against: each step that
 // an implementation takes is told to a World, which does it, or says why the algorithm refuses it.
 //
-// It calls libct.a of bindings/out, which bindings/build.sh makes. Use one goroutine at a time on a World or a Session, and close each:
-// one that isn't closed is given back when the garbage collector finds it, which doesn't see what the library keeps. Copies of a World are
-// the same world, and so of a Session; a call on one that is closed, or that was never opened, is refused as NotOpen.
+// It calls libct.a of this folder, as a release has it, or of bindings/out, where bindings/build.sh makes it. Use one goroutine at a time
+// on a World or a Session, and close each: one that isn't closed is given back when the garbage collector finds it, which doesn't see what
+// the library keeps. Copies of a World are the same world, and so of a Session; a call on one that is closed, or that was never opened, is
+// refused as NotOpen.
 package malletochre
 
 /*
-#cgo CFLAGS: -I${SRCDIR}/..
-#cgo LDFLAGS: ${SRCDIR}/../out/libct.a
+#cgo CFLAGS: -I${SRCDIR} -I${SRCDIR}/..
+#cgo LDFLAGS: -L${SRCDIR} -L${SRCDIR}/../out -l:libct.a
 */
 import "C"
 

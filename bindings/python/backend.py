@@ -1,5 +1,6 @@
 """Builds the wheel of the package for pip (PEP 517, PEP 660), with nothing but Python: its files, the records of examples/, which its
-driver tries first, and libct.so of bindings/out where bindings/build.sh has made it. Without it the package uses `ct_tool`."""
+driver tries first, and libct.so of bindings/out where bindings/build.sh has made it. Without it the package uses `ct_tool`. The same files
+make the same bytes."""
 from __future__ import annotations
 
 import base64
@@ -21,6 +22,7 @@ METADATA = (f"Metadata-Version: 2.1\nName: {NAME}\nVersion: {VERSION}\nSummary: 
             f"Requires-Python: {PROJECT['requires-python']}\n")
 PLUGIN = f"[pytest11]\n{NAME}.drive.plugin = {NAME}.drive.plugin\n"
 ANY = "py3-none-any"
+MADE = (1980, 1, 1, 0, 0, 0)   # as early as an archive can say
 
 
 def _files() -> Dict[str, bytes]:
@@ -37,11 +39,11 @@ def _files() -> Dict[str, bytes]:
     return files
 
 
-def _tag() -> str:
-    """For which Python and machine the wheel is."""
+def _tag(settings: Any) -> str:
+    """For which Python and machine the wheel is: for the machine that the setting `platform` names, or this one."""
     if not os.path.exists(LIBRARY):
         return ANY
-    return "py3-none-" + sysconfig.get_platform().replace("-", "_").replace(".", "_")
+    return "py3-none-" + ((settings or {}).get("platform") or sysconfig.get_platform().replace("-", "_").replace(".", "_"))
 
 
 def _entry(name: str, data: bytes) -> str:
@@ -60,13 +62,18 @@ def _written(directory: str, tag: str, files: Dict[str, bytes]) -> str:
     wheel = f"{NAME}-{VERSION}-{tag}.whl"
     with zipfile.ZipFile(os.path.join(directory, wheel), "w", zipfile.ZIP_DEFLATED) as archive:
         for name, data in files.items():
-            archive.writestr(name, data)
+            archive.writestr(zipfile.ZipInfo(name, MADE), data, zipfile.ZIP_DEFLATED)
     return wheel
 
 
 def build_wheel(wheel_directory: str, config_settings: Any = None, metadata_directory: Optional[str] = None) -> str:
-    """Writes the wheel, and gives its name."""
-    return _written(wheel_directory, _tag(), _files())
+    """Writes the wheel, and gives its name. The setting `origin` is a file that says of what it is made."""
+    files = _files()
+    origin = (config_settings or {}).get("origin")
+    if origin:
+        with open(origin, "rb") as file:
+            files[f"{INFO}/ORIGIN"] = file.read()
+    return _written(wheel_directory, _tag(config_settings), files)
 
 
 def build_editable(wheel_directory: str, config_settings: Any = None, metadata_directory: Optional[str] = None) -> str:

@@ -62,7 +62,7 @@ def of_crate() -> Dict[int, str]:
 
 
 def of_rust() -> Dict[int, str]:
-    return {int(number): name(constant) for constant, number in re.findall(r"const ([A-Z_]+): u32 = (\d+)", text("../rust/src/raw.rs"))}
+    return {int(number): name(constant) for constant, number in re.findall(r"const ([A-Z_]+): u32 = (\d+)", text("../rust/sys/src/lib.rs"))}
 
 
 def of_python() -> Dict[int, str]:
@@ -80,14 +80,15 @@ def version_numbers() -> Dict[str, str]:
 def versions() -> Dict[str, str]:
     """Those of the header and of the packages."""
     sources = {"ct.h": r'#define CT_VERSION "(.*)"', "python/pyproject.toml": r'\nversion = "(.*)"',
-               "rust/Cargo.toml": r'\nversion = "(.*)"'}
+               "rust/Cargo.toml": r'\nversion = "(.*)"', "rust/sys/Cargo.toml": r'\nversion = "(.*)"',
+               "node/package.json": r'"version": "(.*)"', "../VERSION": r"(.*)\n"}
     found = {path: "".join(re.findall(pattern, text(f"../{path}"))) for path, pattern in sources.items()}
     return {"malletochre.__version__": malletochre.__version__, **found}
 
 
 def main() -> int:
     header = of_header()
-    told = {"the crate": of_crate(), "library.py": of_python(), "raw.rs": of_rust()}
+    told = {"the crate": of_crate(), "library.py": of_python(), "malletochre-sys": of_rust()}
     for command in sys.argv[1:]:
         lines = subprocess.run(command.split(), stdout=subprocess.PIPE, check=True, encoding="utf-8").stdout.splitlines()
         told[command] = {int(line.split()[0]): line.split()[1] for line in lines}

@@ -3,7 +3,7 @@
 import { App } from "./app.js";
 import { Diagram } from "./diagram.js";
 import { Editor } from "./editor.js";
-import { Library } from "./library.js";
+import { Library } from "../../bindings/node/library.js";
 import { Members } from "./members.js";
 import { Opening } from "./opening.js";
 import { Search } from "./search.js";
@@ -18,7 +18,7 @@ const FIRST = ["members 3"];
 const HINT = "A group of three that has taken no step: have a member submit a message, open a run, or choose an example.";
 const at = (id) => document.getElementById(id);
 
-const NO_MODULE = "This browser can't run the library: it needs WebAssembly with 64-bit memory (Chrome 133, Edge 133, Firefox 134)";
+const NO_MODULE = "This browser can't run the library: it needs WebAssembly with vectors (Chrome 103, Firefox 113, Safari 16.4)";
 
 // The library of the page's module.
 async function library() {

@@ -25,7 +25,7 @@ export class Members {
     this.run = run;
     const members = Array.from({ length: run.group?.members ?? 0 }, (_, i) => i + 1);
     const questions = ["report", ...members.flatMap((p) => [`state ${p}`, `enabled ${p}`, `next ${p}`, `waiting ${p}`])];
-    const answers = members.length === 0 ? [] : isEnd ? run.live.tell(questions) : run.askAt(at, questions);
+    const answers = members.length === 0 ? [] : isEnd ? run.live.tellAll(questions) : run.askAt(at, questions);
     const kept = this.focused();
     const report = members.length ? JSON.parse(withLongNumbers(answers[0].replace(/^report /, ""))) : { members: [] };
     this.box.innerHTML = report.members.map((facts, i) => this.member(facts, answers.slice(1 + 4 * i, 5 + 4 * i), isEnd)).join("");

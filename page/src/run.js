@@ -1,9 +1,9 @@
 // A run: the lines of a schedule that the library took, the first one that it refused, and the steps that they came to.
 
 import { Places } from "./places.js";
-import { Session } from "./session.js";
+import { Session } from "../../bindings/node/session.js";
 import { Trips } from "./trips.js";
-import { World } from "./world.js";
+import { World } from "../../bindings/node/world.js";
 import { lineOf, withLongNumbers } from "./record.js";
 
 const BLOCK = 2000;
@@ -22,9 +22,10 @@ export const isFault = (answer) => !isOk(answer) && !isAnswer(answer);
 export class Run {
   // The run of no lines.
   constructor(library) {
-    this.live = new Session(library); // stands behind the last line, cuts and all
-    this.past = new Session(library); // stands behind `pastAt` steps of the record
-    this.world = new World(library);
+    this.library = library;
+    this.live = new Session({ library }); // stands behind the last line, cuts and all
+    this.past = new Session({ library }); // stands behind `pastAt` steps of the record
+    this.world = null; // has done the steps
     this.lines = []; // those that were taken
     this.ends = []; // by line: how many steps there are behind it
     this.fault = null; // of the first line that was refused: { line, text, answer }
@@ -39,7 +40,7 @@ export class Run {
   }
 
   close() {
-    for (const it of [this.live, this.past, this.world]) it.close();
+    for (const it of [this.live, this.past, this.world]) it?.close();
   }
 
   // Judges these lines, the first ones of a run; lines behind one that is refused are left. `told` hears of the share that is done, behind
@@ -62,7 +63,7 @@ export class Run {
 
   // Judges one more line: its answer. One that is refused changes nothing, and a question is not kept.
   say(line) {
-    const [answer, limits] = this.live.tell([line, "limits"]);
+    const [answer, limits] = this.live.tellAll([line, "limits"]);
     if (isOk(answer)) {
       this.keep(line, limits);
       this.follow(this.news());
@@ -74,7 +75,7 @@ export class Run {
   // member stands then.
   take(block, before) {
     const questions = block.map((line) => this.question(line));
-    const answers = this.live.tell(block.flatMap((line, i) => (questions[i] ? [line, questions[i]] : [line])));
+    const answers = this.live.tellAll(block.flatMap((line, i) => (questions[i] ? [line, questions[i]] : [line])));
     let at = 0;
     for (let i = 0; i < block.length; i++) {
       const answer = answers[at++];
@@ -108,12 +109,12 @@ export class Run {
   // Has the session stand behind the lines that were taken: those behind the refused one were told, too.
   goBack() {
     this.live.begin();
-    for (let at = 0; at < this.lines.length; at += BLOCK) this.live.tell(this.lines.slice(at, at + BLOCK));
+    for (let at = 0; at < this.lines.length; at += BLOCK) this.live.tellAll(this.lines.slice(at, at + BLOCK));
   }
 
   // The steps that lines came to since: what the library's record has behind the steps that were read.
   news() {
-    if (isFault(this.live.ask("limits"))) return [];
+    if (isFault(this.live.tellAll(["limits"])[0])) return [];
     if (!this.group) this.settle();
     const text = this.live.recordFrom(this.read);
     const steps = text.slice(0, text.lastIndexOf("]"));
@@ -128,14 +129,14 @@ export class Run {
     const { n, cells, batch } = JSON.parse(`${text.slice(0, this.read)}]}`);
     this.group = { members: n, cells, batch };
     this.trips = new Trips(n);
-    this.world.begin(this.group);
+    this.world = new World(n, { cells, bound: batch, library: this.library });
     this.beginPast();
   }
 
   beginPast() {
     const { members, cells, batch } = this.group;
     this.past.begin();
-    this.past.tell([`members ${members}`, `cells ${cells}`, `batch ${batch}`]);
+    this.past.tellAll([`members ${members}`, `cells ${cells}`, `batch ${batch}`]);
     this.pastAt = 0;
   }
 
@@ -154,7 +155,7 @@ export class Run {
 
   followInPast(first, steps) {
     this.goTo(first);
-    const answers = this.past.tell(steps.flatMap((step) => [lineOf(step), `state ${step[1]}`]));
+    const answers = this.past.tellAll(steps.flatMap((step) => [lineOf(step), `state ${step[1]}`]));
     steps.forEach((_, i) => this.places.push(answers[2 * i + 1]));
     this.pastAt = this.steps.length;
   }
@@ -164,7 +165,7 @@ export class Run {
     if (at < this.pastAt) this.beginPast();
     while (this.pastAt < at) {
       const end = Math.min(at, this.pastAt + BLOCK);
-      this.past.tell(this.steps.slice(this.pastAt, end).map(lineOf));
+      this.past.tellAll(this.steps.slice(this.pastAt, end).map(lineOf));
       this.pastAt = end;
     }
   }
@@ -172,7 +173,7 @@ export class Run {
   // What the library answers to questions behind so many steps.
   askAt(at, questions) {
     this.goTo(at);
-    return this.past.tell(questions);
+    return this.past.tellAll(questions);
   }
 
   // The line that the last of so many steps is of, or -1.

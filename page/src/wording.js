@@ -14,9 +14,9 @@ function valueText(names) {
 export function envelopeText(world, serial) {
   const it = world.envelope(serial);
   if (!it) return `#${serial}`;
-  if (it.kind === "data") return `#${serial} data ${it.message.name} ${it.message.command}`;
+  if (it.kind === "data") return `#${serial} data ${it.message.name} ${it.message.command.join(" ")}`;
   const sender = it.from ? ` from ${it.from}` : "";
-  const names = world.value(serial);
+  const names = world.value(serial)?.map((message) => message.name);
   const value = names ? ` ${valueText(names)}` : "";
   return `#${serial} ${it.kind} ${it.instance}/${it.round}${sender}${value}${it.kind === "est" ? ` ts ${it.ts}` : ""}`;
 }

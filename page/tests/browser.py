@@ -1,12 +1,12 @@
 #!/usr/bin/env python3
 """Tests the page in Chromium, or some of it in Firefox, from the disk, as one uses it: by clicks and by keys.
 
-    browser.py PAGE KEPT CT CT_TOOL FOLDER [SHOTS]
+    browser.py PAGE CT CT_TOOL FOLDER [SHOTS]
 
-PAGE: the page; KEPT: the one that is kept in the repository; CT, CT_TOOL: the programs, which say what is right; FOLDER: what
-bindings/tests/inputs.py wrote; SHOTS: a folder for screenshots. ONLY names tests, parted by spaces, that alone are run; BROWSER is firefox
-for that one. Ends with a line `N passed, M failed`.
+PAGE: the page; CT, CT_TOOL: the programs, which say what is right; FOLDER: what bindings/tests/inputs.py wrote; SHOTS: a folder for
+screenshots. ONLY names tests, parted by spaces, that alone are run; BROWSER is firefox for that one. Ends with a line `N passed, M failed`.
 """
+import contextlib
 import http.server
 import json
 import os
@@ -17,6 +17,7 @@ import tempfile
 import threading
 import time
 import traceback
+from typing import Iterator, List, Tuple
 
 from opened import OPENED, logs
 from page import Page
@@ -356,7 +357,7 @@ def steady(page: Page) -> None:
     page.give("run.json", page.made(5, 1000))
     page.until(lambda: page.steps() == 1000)
     again = "for (let i = 0; i < arguments[0]; i++) await ct.app.change([...ct.app.lines]);"
-    memory = "return ct.app.run.world.library.calls.memory.buffer.byteLength"
+    memory = "return ct.app.run.library.calls.memory.buffer.byteLength"
     few, many = [page.run(f"return (async () => {{ {again} {memory} }})()", times) for times in (10, 100)]
     assert many == few, (few, many)
 
@@ -405,9 +406,9 @@ def blocks(page: Page) -> None:
       return others""")
     assert found == [], found
     told = page.run("""const { live, library } = ct.app.run;
-      const session = new live.constructor(ct.app.library);
+      const session = new live.constructor({ library: ct.app.library });
       try { return session.record(); } catch (error) { return error.message; } finally { session.close(); }""")
-    assert told == "no members", told
+    assert told == "no step was told yet", told
 
 
 def dark_and_narrow(page: Page) -> None:
@@ -489,48 +490,74 @@ def at_random(page: Page) -> None:
         assert found == [], found
 
 
-def served(page: Page) -> None:
-    """The page comes from a web server, too, which is asked for nothing else."""
-    asked = []
+@contextlib.contextmanager
+def serving(folder: str) -> Iterator[Tuple[str, List[str]]]:
+    """A web server of this folder: its address, and what it is asked for."""
+    asked: List[str] = []
 
     class Handler(http.server.SimpleHTTPRequestHandler):
-        """Serves the page's folder, and keeps what was asked for."""
+        """Serves the folder, and keeps what was asked for."""
 
         def __init__(self, *words) -> None:
-            super().__init__(*words, directory=os.path.dirname(page.path))
+            super().__init__(*words, directory=folder)
 
         def log_message(self, *words) -> None:
             asked.append(self.path)
 
     with http.server.ThreadingHTTPServer(("127.0.0.1", 0), Handler) as server:
         threading.Thread(target=server.serve_forever, daemon=True).start()
-        page.visit(f"http://127.0.0.1:{server.server_port}/{os.path.basename(page.path)}#example=locked_value")
+        yield f"http://127.0.0.1:{server.server_port}", asked
+        server.shutdown()
+
+
+def served(page: Page) -> None:
+    """The page comes from a web server, too, which is asked for nothing else."""
+    with serving(os.path.dirname(page.path)) as (address, asked):
+        page.visit(f"{address}/{os.path.basename(page.path)}#example=locked_value")
         assert page.steps() == 153
         page.open()
-        server.shutdown()
     assert set(asked) <= {f"/{os.path.basename(page.path)}", "/favicon.ico"}, asked
 
 
+def packaged(page: Page) -> None:
+    """The package for node and browsers does in one what it does there."""
+    with serving(os.path.join(ROOT, "bindings", "node")) as (address, _):
+        page.driver.get(f"{address}/tests/")
+        told = page.run_async("""const done = arguments[0];
+          import("/index.js").then(async ({ World, Session, tool, version }) => {
+            const world = new World(3);
+            const sent = world.apply(["submit", 1, ["set", 0, 7]]);
+            const [answer] = new Session().tellAll(["members 17"]);
+            done([sent.count, world.refusal(["choose", 2, 2]), answer, version, await tool(["record"], { input: "members 1\\n" })]);
+          }).catch((error) => done(String(error)))""")
+        page.console()  # which tells that there is no icon
+        page.open()
+    answer = subprocess.run([page.tool, "interact"], input=b"members 17\n", stdout=subprocess.PIPE, check=False).stdout.decode().strip()
+    out = subprocess.run([page.tool, "record"], input=b"members 1\n", stdout=subprocess.PIPE, check=True).stdout.decode()
+    with open(os.path.join(ROOT, "VERSION"), encoding="utf-8") as file:
+        version = file.read().strip()
+    assert told == [3, "Idle", answer, version, {"status": 0, "out": out, "err": ""}], told
+
+
 def same_answers(page: Page) -> None:
-    """The module answers 200,000 lines as `ct_tool interact` does, also the one of the page that is kept."""
+    """The module answers 200,000 lines as `ct_tool interact` does."""
     with open(os.path.join(page.inputs, "lines_told"), encoding="utf-8") as file:
         lines = file.read()
     wanted = subprocess.run([page.tool, "interact"], input=lines.encode(), stdout=subprocess.PIPE, check=True).stdout.decode()
-    for path in (page.path, page.kept):
-        page.open(path=path)
-        print(f"  {os.path.getsize(path):,} bytes, loaded in {page.run('return ct.loaded'):.0f} ms")
-        for size in (1, 5000):
-            took, answers = page.run(TELL, lines, size)
-            assert answers == wanted, first_other(answers, wanted)
-            count = lines.count("\n")
-            print(f"  {count:,} lines, {size} at once: {count / took:,.0f} a second")
+    page.open()
+    print(f"  {os.path.getsize(page.path):,} bytes, loaded in {page.run('return ct.loaded'):.0f} ms")
+    for size in (1, 5000):
+        took, answers = page.run(TELL, lines, size)
+        assert answers == wanted, first_other(answers, wanted)
+        count = lines.count("\n")
+        print(f"  {count:,} lines, {size} at once: {count / took:,.0f} a second")
 
 
-TELL = """const session = new ct.app.run.live.constructor(ct.app.run.world.library);
+TELL = """const session = new ct.app.run.live.constructor({ library: ct.app.run.library });
   const lines = arguments[0].split('\\n').slice(0, -1);
   const answers = [];
   const start = performance.now();
-  for (let at = 0; at < lines.length; at += arguments[1]) answers.push(...session.tell(lines.slice(at, at + arguments[1])));
+  for (let at = 0; at < lines.length; at += arguments[1]) answers.push(...session.tellAll(lines.slice(at, at + arguments[1])));
   const took = (performance.now() - start) / 1000;
   session.close();
   return [took, answers.join('\\n') + '\\n'];"""
@@ -551,8 +578,8 @@ def same_steps(page: Page) -> None:
     page.open()
     with open(os.path.join(page.inputs, "record.json"), encoding="utf-8") as file:
         sent = page.run("""const record = JSON.parse(arguments[0].replace(/\\b[0-9]{16,}\\b/g, '"$&"'));
-          const world = ct.app.run.world;
-          world.begin({ members: record.n, cells: record.cells, batch: record.batch });
+          const { library, constructor: World } = ct.app.run.world;
+          const world = new World(record.n, { cells: record.cells, bound: record.batch, library });
           const sent = ({ first, count }) => count ? [first, first + count - 1] : [];
           return record.steps.map((step) => sent(world.apply(step)));""", file.read())
     wanted = [[int(it) for it in (line[3:].split("-") * 2)[:2]] if len(line) > 2 else [] for line in answers.splitlines()]
@@ -586,9 +613,9 @@ def without_sender(text: str) -> str:
 
 TESTS = [worked_example, refused_step, undo_and_redo, network, edited, arrows, looked_at, filtered, saved_and_opened, named_by_content,
          no_record, long_numbers, by_keys, named, smooth, steady, big, blocks, dark_and_narrow, printed, readable, scenarios, at_random,
-         served, same_answers, same_steps, same_envelopes, *OPENED, *TABLE, *SEEKING]
+         served, packaged, same_answers, same_steps, same_envelopes, *OPENED, *TABLE, *SEEKING]
 
-IN_FIREFOX = [undo_and_redo, edited, arrows, filtered, blocks, dark_and_narrow, logs, finds]
+IN_FIREFOX = [undo_and_redo, edited, arrows, filtered, blocks, dark_and_narrow, packaged, logs, finds]
 
 
 def main() -> int:
@@ -597,7 +624,7 @@ def main() -> int:
     usual = IN_FIREFOX if os.environ.get("BROWSER") == "firefox" else TESTS
     tests = [it for it in TESTS if it.__name__ in only] if only else usual
     with tempfile.TemporaryDirectory() as folder:
-        page = Page([os.path.abspath(it) for it in sys.argv[1:6]], ROOT, folder, sys.argv[6] if len(sys.argv) > 6 else None)
+        page = Page([os.path.abspath(it) for it in sys.argv[1:5]], ROOT, folder, sys.argv[5] if len(sys.argv) > 5 else None)
         for test in tests:
             start = time.time()
             try:

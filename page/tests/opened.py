@@ -113,7 +113,7 @@ def told_what_it_is(page: Page) -> None:
             page.click(f"#what a[href='{link}']")
             page.until(lambda: page.steps() > 0)
         else:
-            assert os.path.exists(os.path.join(os.path.dirname(page.kept), link)), link
+            assert os.path.exists(os.path.join(page.root, "page", link)), link
     made = page.run("return [...document.querySelectorAll('#made code')].map((it) => it.textContent)")
     sums = page.run("""const sum = async (id) => {
         const bytes = Uint8Array.from(atob(document.getElementById(id).textContent), (it) => it.charCodeAt(0));

@@ -27,7 +27,7 @@ class Page:
     """A browser with the page, whose downloads go to a folder."""
 
     def __init__(self, paths: List[str], root: str, folder: str, shots: Optional[str]) -> None:
-        self.path, self.kept, self.ct, self.tool, self.inputs = paths
+        self.path, self.ct, self.tool, self.inputs = paths
         self.root, self.folder, self.shots = root, folder, shots
         is_firefox = os.environ.get("BROWSER") == "firefox"
         self.driver = Firefox(tempfile.mkdtemp(dir=folder)) if is_firefox else self.chromium()
@@ -109,7 +109,7 @@ class Page:
         return self.run("""const found = [];
           for (const article of document.querySelectorAll('article')) {
             const p = article.dataset.member;
-            const [next] = ct.app.run.live.tell([`next ${p}`]);
+            const [next] = ct.app.run.live.tellAll([`next ${p}`]);
             found.push(...next.replace('next ', '').split(' or ').filter((line) => line !== '-'));
           }
           return found""")

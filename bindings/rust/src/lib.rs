@@ -46,7 +46,6 @@ mod envelope;
 mod handle;
 mod member;
 mod message;
-mod raw;
 mod record;
 mod refusal;
 mod session;
@@ -54,6 +53,8 @@ mod setup;
 mod step;
 mod steps;
 mod world;
+
+use malletochre_sys as raw;
 
 pub use envelope::{Content, Envelope};
 pub use member::Member;

@@ -1,4 +1,5 @@
-//! The C interface, as bindings/ct.h declares it; what the calls and numbers mean stands there.
+//! The calls of libct, as bindings/ct.h declares them; what they and their numbers mean stands there.
+#![allow(missing_docs)]
 
 use std::ffi::c_void;
 

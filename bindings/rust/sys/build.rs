@@ -1,12 +1,14 @@
-//! Links libct.a of bindings/out, or of the folder that the variable CT_LIB_DIR names.
+//! Links libct.a of this folder, as the release has it, of bindings/out, or of the folder that the variable CT_LIB_DIR names.
 
 use std::env;
 use std::path::PathBuf;
 
 fn main() {
+    let here = PathBuf::from(env!("CARGO_MANIFEST_DIR"));
     let folder = match env::var_os("CT_LIB_DIR") {
         Some(folder) => PathBuf::from(folder),
-        None => PathBuf::from(env!("CARGO_MANIFEST_DIR")).join("../out"),
+        None if here.join("libct.a").exists() => here,
+        None => here.join("../../out"),
     };
     let library = folder.join("libct.a");
     println!("cargo:rerun-if-env-changed=CT_LIB_DIR");

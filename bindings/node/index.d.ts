@@ -1,0 +1,121 @@
+/** A rehearsal of Chandra and Toueg's atomic broadcast, in process, to test implementations against: each step that an implementation takes
+ *  is told to a `World`, which does it, or says why the algorithm refuses it. A `Session` is told lines of a schedule instead, and answers
+ *  each (docs/SCHEDULES.md). Both are WebAssembly, for node 18 and later and for browsers. */
+
+/** Over 16 registers of 64 bits: a register and a value, a register and an amount, or two registers, of which the second gets the value of
+ *  the first. What is read has BigInts as values and amounts; what is told may have numbers, up to 2^53 - 1. */
+export type Command = ["set" | "add", number, bigint | number] | ["copy", number, number];
+
+/** A step as a record has it (docs/FORMATS.md): its name, its member, counted from 1, and an envelope's serial, a member, or a command. */
+export type Step =
+  | ["begin" | "enter" | "adopt" | "suspect" | "conclude" | "deliver" | "follow" | "crash", number]
+  | ["receive" | "postpone" | "lose" | "repeat", number, number]
+  | ["choose", number, number]
+  | ["submit", number, Command];
+
+/** Why a step is refused: the first cause that applies, in the order of testing (docs/ALGORITHM.md). */
+export type Refusal =
+  | "NoSuchMember" | "Crashed" | "NotWaiting" | "Busy" | "Nothing" | "Idle" | "WrongPhase" | "Decided" | "TooFew" | "NotLargest"
+  | "NoProposal" | "HasProposal" | "Undecided" | "BadCommand" | "NotSent" | "StillWaiting" | "Full(Submissions)" | "Full(Instances)"
+  | "Full(Rounds)" | "Full(Envelopes)" | "Full(Cells)" | "Full(Steps)" | "OutOfMemory" | "Board";
+
+/** All of them, by the numbers of ct.h, from 1. */
+export const REFUSALS: readonly Refusal[];
+
+/** The envelopes that a step sent: their serials are `first` to `first + count - 1`. */
+export interface Sent { first: number; count: number }
+
+/** The number-th command that `origin` broadcast; its name is `origin.number`. */
+export interface Message { name: string; origin: number; number: number; command: Command }
+
+/** What an envelope carries, and to whom. */
+export type Envelope = { serial: number; to: number } & (
+  | { kind: "data"; message: Message }
+  | { kind: "est"; instance: number; round: number; from: number; ts: number }
+  | { kind: "ack" | "nack"; instance: number; round: number; from: number }
+  | { kind: "prop" | "dec"; instance: number; round: number });
+
+/** A step or a line that was refused. Nothing has changed. */
+export class Refused extends Error { refusal: Refusal | null }
+export class StepRefused extends Refused { step: Step; member: number; refusal: Refusal }
+
+/** A line that a session refused: its number, from 1, and its fault, in the words of docs/SCHEDULES.md. Of a step that the rules refuse
+ *  `member`, `refusal` and `facts` say whose it is, why, and what is told besides; else they are null. */
+export class LineRefused extends Refused { number: number; line: string; fault: string; member: number | null; facts: string | null }
+
+export const MAX_MEMBERS: 16;
+export const MAX_CELLS: 1024;
+export const MAX_BOUND: 1048560;
+
+/** A group of members, what is on its way between them, what each received, decided and delivered, and the record of the steps so far.
+ *  Numbers out of range are a RangeError, names of no step a TypeError; of a closed world the error's `code` is "NotOpen". */
+export class World {
+  /** members: 1 to MAX_MEMBERS. cells: how many instances can be delivered, 0 to MAX_CELLS, 64 if left out. bound: how many messages a
+   *  member proposes for an instance at most, 1 to MAX_BOUND, which is more than can be pending. */
+  constructor(members: number, setup?: { cells?: number; bound?: number });
+  /** The world of a record, as `record` gives it. SyntaxError where it is none, StepRefused where one of its steps is. */
+  static ofRecord(record: string): World;
+  readonly members: number;
+  readonly cells: number;
+  readonly bound: number;
+  /** Does the step; or StepRefused. */
+  apply(step: Step): Sent;
+  /** Why the step would be refused now, want of memory apart; null where it is allowed. */
+  refusal(step: Step): Refusal | null;
+  enabled(step: Step): boolean;
+  /** What a driver does next at the member: the first allowed step of deliver, follow, begin, choose (of the least member that was heard
+   *  with the largest ts), adopt, conclude, enter and suspect. */
+  next(member: number): Step | null;
+  /** The steps so far, from a place on, counted from 0. */
+  steps(from?: number): Step[];
+  /** The record, as `ct replay` and `ct_tool` read it: JSON. */
+  record(): string;
+  /** The serials that wait at the member, in the order of its line. */
+  serials(member: number): number[];
+  waiting(member: number): Envelope[];
+  /** The envelope of a serial, wherever it is now; null where it was not sent. */
+  envelope(serial: number): Envelope | null;
+  /** The value that an estimate, a proposal or a decision carries, in the order of messages; null of other envelopes. */
+  value(serial: number): Message[] | null;
+  /** In order of first receipt. */
+  received(member: number): Message[];
+  /** The decision that the member got for an instance, in the order of messages; null where it got none. */
+  decided(member: number, instance: number): Message[] | null;
+  delivered(member: number): Message[];
+  /** The values of its 16 registers, after the commands of what it delivered. */
+  table(member: number): bigint[];
+  hasCrashed(member: number): boolean;
+  /** A world of its own with the same setup and record. It takes as long as replaying the record. */
+  copy(): World;
+  /** Lets go what it keeps; the garbage collector does so too, but sees little of it. */
+  close(): void;
+}
+
+/** A run that is judged line by line, as `ct_tool interact` judges it. */
+export class Session {
+  constructor();
+  /** How many lines were told, the refused ones too. */
+  readonly lines: number;
+  /** What the line's steps sent; LineRefused, or TypeError of a text that is not one line, or of a question. */
+  tell(line: string): Sent;
+  /** The answer to the line, which may be a question; or LineRefused. */
+  ask(line: string): string;
+  /** The answers to these lines, one each, also to those that are refused: many at once are quicker than one by one. */
+  tellAll(lines: readonly string[]): string[];
+  /** The record of the steps so far: JSON. An Error whose `code` is "NoWorld" where no step was told yet. */
+  record(): string;
+  /** The diagram of the steps so far, as SVG; of too many steps an Error whose `code` is "TooLong". */
+  diagram(): string;
+  /** Begins anew, told nothing. */
+  begin(): void;
+  close(): void;
+}
+
+/** Runs the program ct_tool (docs/FORMATS.md) with these words, this text as standard input and these files to be read, none other. It
+ *  makes no file, has one thread, and holds up its caller's: what takes long is for a worker. */
+export function tool(
+  words: readonly string[], given?: { input?: string; files?: { name: string; bytes: Uint8Array }[] },
+): Promise<{ status: number; out: string; err: string }>;
+
+/** Of the library, as `ct_version` answers it. */
+export const version: string;
