@@ -51,6 +51,10 @@ KINDS = {
 # By document and first line: why a block is not run.
 NOT_RUN = {
     ("README.md", "rt ci"): "the gate, which runs this",
+    **{("README.md", line): "for a release; release/test.sh runs it" for line in (
+        "sha256sum --check --quiet SHA256SUMS", "export PKG_CONFIG_PATH=$PWD/malletochre-0.1.0-x86_64-linux/lib/pkgconfig",
+        "python3 -m venv python", "for it in *.crate; do tar xf $it; done", "tar xf malletochre-go-0.1.0.tar.gz",
+        "npm install --silent --offline ./malletochre-0.1.0.tgz", "refused TooFew")},
     ("docs/ALGORITHM.md", "Enter               Choose             Adopt or Suspect             Conclude"): "a drawing",
     ("docs/LOGS.md", "# the log of member 1"): "a log without those of the others",
     ("docs/LOGS.md", "accepted: 5 members, 812 lines; instances 3, largest round 4, suspicions 7, choices between different ts 2, "

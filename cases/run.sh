@@ -5,6 +5,8 @@
 # Compares the man pages and the completions of both with their help, and runs what the documents show.
 #
 #     cases/run.sh [CT [CT_TOOL]]        the built programs; those of ../crates/*/out if left out
+#     cases/run.sh --table PROGRAM       tool_table.txt alone, with another program that has to do what CT_TOOL does; under node, which opens
+#                                        streams that are closed, without the cases of these
 #
 # Prints a line for each failing case and ends with `N passed, M failed`, and with
 # status 0 only where none failed. A run of more than 20 seconds fails, and so does a
@@ -14,6 +16,11 @@ set -u
 export LC_ALL=C
 
 here=$(cd "$(dirname "$0")" && pwd)
+only=''
+if [[ ${1-} == --table ]]; then
+    only=$2
+    set -- "$2" "$2"
+fi
 ct=${1:-$here/../crates/ct/out/ct}
 tool=${2:-$here/../crates/ct_tool/out/ct_tool}
 for package in jsonschema distributed psutil; do
@@ -328,6 +335,18 @@ check_written_walks() {
     tally 'the schedules of walks' "$wrong"
 }
 
+# check_completed RECORD: the first half of its steps goes on until all that are up have delivered the same.
+check_completed() {
+    local wrong=''
+    python3 -c 'import json, sys; it = json.load(sys.stdin); del it["steps"][len(it["steps"]) // 2 :]; json.dump(it, sys.stdout)' \
+        <"$1" >"$folder/half"
+    timeout -k 5 20 "$tool" complete "$folder/half" >"$folder/output" 2>"$folder/error" ||
+        wrong+=" not completed: '$(start_of "$folder/error")';"
+    "$ct" replay "$folder/output" 2>&1 | awk '/^member/ { up = $3 == "up" } /^delivered/ && up' | sort -u >"$folder/delivered"
+    [[ $(wc -l <"$folder/delivered") -eq 1 ]] || wrong+=' not all delivered the same;'
+    tally "the completed half of $1" "$wrong"
+}
+
 # check_log NAME: the log is accepted, and replayed; or, beside NAME.fault, refused with a line that begins so and this status.
 check_log() {
     local wrong='' status fault='' wanted=0
@@ -525,11 +544,16 @@ check_table() {
     done 9<"$1"
 }
 
+program=$tool
+if [[ -n $only ]]; then
+    check_table <(grep -v '@closed' tool_table.txt)
+    echo "$passed passed, $failed failed"
+    exit $((failed > 0))
+fi
 check_pages
 check_widths
 check_completions
 
-program=$tool
 check_table tool_table.txt
 check_walks
 check_kept
@@ -557,6 +581,9 @@ for record in ../examples/*.json; do
     [[ -e ${record%.json}.fault ]] || check_written "$record" "$record"
 done
 check_written_walks
+for record in ../examples/*.json; do
+    check_completed "$record"
+done
 for schedule in ../examples/python/*.schedule; do
     check_log "${schedule%.schedule}"
 done
