@@ -12,7 +12,6 @@ and 3.log the logs of a run's members; commands find what those before them wrot
     {"batch": ..            a record, which is replayed; commands behind it find it as record.json
     # NAME.py               a program in Python of this name; a command behind it names it
     $ COMMAND               commands, each behind a `$`, and what each writes to standard output and error
-    pub fn ..               a contract: these lines stand in a file of crates/, comments apart
     #![tactic(auto)]        a program in Rattle, which `rt try` runs; its libraries stand behind `NAME:` in the paragraph above
     ct, ct_tool, crates/.., examples/.., printf, python3, sed, rt, export, PYTHONPATH=.., (cd crates/..
                             commands, each line one
@@ -44,7 +43,6 @@ KINDS = {
     "record": re.compile(r'\{"batch":'),
     "python": re.compile(r"# (\w+)\.py$"),
     "transcript": re.compile(r"\$ "),
-    "contract": re.compile(r"pub fn "),
     "program": re.compile(r"#!\[tactic\(auto\)\]$"),
     "command": re.compile(r"(ct|ct_tool|printf|python3|sed|rt|export) |crates/|examples/|PYTHONPATH=|\(cd crates/"),
 }
@@ -64,7 +62,7 @@ NOT_RUN = {
     ("docs/ARCHITECTURE.md", "programs               ct             ct_tool             ct_growths"): "a drawing",
 }
 # So many of each kind are there at least.
-LEAST = {"schedule": 1, "record": 1, "python": 3, "transcript": 7, "contract": 1, "program": 1, "command": 25, "output": 9, "example": 22}
+LEAST = {"schedule": 1, "record": 1, "python": 2, "transcript": 7, "program": 1, "command": 25, "output": 9, "example": 22}
 BUILT = re.compile(r"\(cd crates/(ct|ct_tool) && rt (?:run|try) -- ")
 FREE = re.compile(r"\bct(/out/ct)? free\b")
 SECONDS = 60
@@ -123,12 +121,6 @@ def start_of(text: str) -> str:
 def is_like(wanted: str, made: str) -> bool:
     """Whether a text is as wanted, where a line that begins with `..` stands for any text."""
     return re.fullmatch(".*".join(map(re.escape, re.split(r"^\.\.\n?", wanted, flags=re.M))), made, re.S) is not None
-
-
-def without_comments(text: str) -> str:
-    """The lines of a Rattle text that aren't blank or comments, without what is blank at their ends."""
-    lines = [line.strip() for line in text.split("\n")]
-    return "".join(line + "\n" for line in lines if line and not line.startswith("//"))
 
 
 def ended(words: List[str], seconds: int, text: str = "", **how: Any) -> Done:
@@ -309,11 +301,6 @@ class Document:
             command, _, wanted = told.partition("\n")
             made = self.cases.tree.run(f"({command}) 2>&1").output
             self.cases.count("transcript", where, "" if made == wanted else f"`{command}` writes {start_of(made)}")
-
-    def contract(self, _place: int, where: str, part: Part) -> None:
-        files = glob.glob(os.path.join(ROOT, "crates", "*", "src", "**", "*.rt"), recursive=True)
-        stands = any(without_comments(part.text) in without_comments(read(path)) for path in files)
-        self.cases.count("contract", where, "" if stands else "no file of crates/ has it")
 
     def program(self, place: int, where: str, part: Part) -> None:
         named = re.search(r"`NAME: ([\w ]+)`", self.paragraph(place - 1))
