@@ -227,12 +227,13 @@ class Page:
     # What comes from elsewhere.
 
     def told_by(self, document: str) -> str:
-        """What the first program of a document prints, with its mistake mended as the document says."""
+        """What the first program of a document prints, with its mistake mended as the document says, and nothing stated."""
         with open(document, encoding="utf-8") as file:
             text = file.read()
         block = re.search(r"^    # mine\.py\n(?:^(?:    .*)?\n)+", text, re.M)[0]
         program = "\n".join(line[4:] for line in block.splitlines()).replace("N // 2", "N // 2 + 1")
-        return subprocess.run([sys.executable, "-c", program], stdout=subprocess.PIPE, check=True, text=True).stdout
+        told = subprocess.run([sys.executable, "-c", program], stdout=subprocess.PIPE, check=True, text=True).stdout
+        return re.sub(r" \{.*", "", told)
 
     def made(self, members: int, steps: int, *more: str) -> str:
         """A record of so many steps."""
