@@ -223,6 +223,7 @@ class Misbehaved(unittest.TestCase):
         sends, reads = "self.out.append(Send(to, m))", "return Data(message[:2], message[2])"
         for old, new, part in ((sends, "self.out.append(m)", "neither Send(to, packet) nor Deliver"),
                                (sends, "self.out.append(Send(7, m))", "sends to 7: 1 to 3, or ALL, is due"),
+                               (sends, "self.out.append(Send(0, m))", "sends to 0: 1 to 3, or ALL, is due"),
                                ("        return out\n", "        return 5\n", "gives 5, which is neither Send(to, packet) nor Deliver"),
                                (reads, "return 5", "`wire` gives 5"), (reads, "return m.name", "`wire` raises AttributeError"),
                                (reads, "return Data(\"1.1\")", "raises ValueError: '1.1' is no message: (origin, number) is due"),

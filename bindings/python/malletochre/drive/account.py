@@ -258,12 +258,12 @@ class Lockstep(Standing):
         """Why nothing sends this here."""
         p = account.p
         to = self._receiver(account, to, letter)
-        says = f"sends {full(letter)} to {to or 'all'}"
+        says = f"sends {full(letter)} to {'all' if to == ALL else to}"
         if isinstance(letter, Data):
             has_come = letter.message in self.places[p].seen
             why = "it is the origin" if letter.message[0] == p else "it had received this before" if has_come else "it hasn't received this"
             return Difference("extra", p, says, f"sends nothing on: {why}")
-        if self.serial_of(p, to or p, letter):
+        if self.serial_of(p, p if to == ALL else to, letter):
             return Difference("extra", p, says, "sends nothing: it has sent this before")
         step = self._step_of(p, letter)
         cause, act = (self.cause(step), self.act(step)) if step else ("", "")

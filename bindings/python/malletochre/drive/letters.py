@@ -10,7 +10,7 @@ from ..world import World
 Name = Tuple[int, int]        # a message: its origin, and its number there, from 1
 Value = Tuple[Name, ...]      # messages, in order
 Command = Tuple[Any, ...]     # ("set", register, value), ("add", register, amount) or ("copy", register, register)
-ALL = 0                       # in place of a member: to each of the group, the sender too
+ALL = -1                      # in place of a member: to each of the group, the sender too; no number that a program counts from 0
 
 
 class Data(NamedTuple):

@@ -305,7 +305,8 @@ def _look(trouble: Dict[str, Any], require: Iterable[str]) -> None:
 
 def _of_setup(schedule: Schedule, setup: Setup) -> Schedule:
     if (schedule.members, schedule.bound) != (setup.members, setup.batch):
-        raise ValueError(f"{schedule.name} is of members={schedule.members}, batch={schedule.bound}, not of {setup.members}, {setup.batch}")
+        raise ValueError(f"{schedule.name} is for check(.., members={schedule.members}, batch={schedule.bound}), "
+                         f"not for members={setup.members}, batch={setup.batch}")
     return schedule
 
 
