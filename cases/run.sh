@@ -258,14 +258,20 @@ completed() {
 
 # check_completions: bash offers the subcommands that help names, an option of one, and files where a file is wanted.
 check_completions() {
-    local wrong='' commands
+    local wrong='' commands facts
     commands=$("$tool" --help | sed -n '/^Commands:/,/^$/s/^  \([^ ][^ ]*\).*/\1/p' | tr '\n' ' ')
     [[ $(completed ct_tool '') == "${commands% }" ]] || wrong+=" not the subcommands of ct_tool;"
     [[ $(completed ct fre) == free ]] || wrong+=" not a subcommand of ct;"
     [[ $(completed ct_tool help wal) == walk ]] || wrong+=" not the subcommand that help is wanted of;"
     [[ $(completed ct free --mem) == --members ]] || wrong+=" not an option;"
     [[ $(completed ct free --members '') == '' ]] || wrong+=" something where a number is wanted;"
-    [[ $(completed ct_tool walk --until decided '') == '' ]] || wrong+=" something where a second value is wanted;"
+    [[ $(completed ct_tool walk --seed '') == '' ]] || wrong+=" something where a number is wanted;"
+    [[ $(completed ct_tool walk --until any dec) == decided ]] || wrong+=" not a word of a goal;"
+    [[ $(completed ct_tool diagram --only '') == consensus ]] || wrong+=" not the kind of steps;"
+    facts=$("$tool" shrink --goal 'any x' /dev/null 2>&1 | sed 's/.*x is no fact: //; s/,//g')
+    # shellcheck disable=SC2086 # each word of it
+    [[ $(completed ct_tool find --goal '' | tr ' ' '\n' | sort) == $(printf '%s\n' all any ever never and count $facts | sort) ]] ||
+        wrong+=" not the words of goals;"
     [[ $(completed ct_tool walk --find any crashed --see) == '--seed --seeds' ]] || wrong+=" not an option behind a goal;"
     [[ $(completed ct_tool steps --from 2 suspicion.j) == suspicion.json ]] || wrong+=" not a file;"
     [[ $(completed ct_tool steps a --fr) == --from ]] || wrong+=" not an option behind a file;"

@@ -1,9 +1,9 @@
-# Completion of ct in bash: its subcommands, their options, and files where a file is wanted.
+# Completion of ct in bash: its subcommands, their options, and words and files where they are wanted.
 # docs/man/make.py writes this file from what ct --help prints.
 
 # What follows each subcommand, and with an empty word what follows the program: its options, those that take values
-# with what each value is, and its operands. `command` is a subcommand, `file` a file, `a|b` one of these words, `any`
-# what isn't known; with + behind it any number of words.
+# with what each value is, and its operands. `command` is a subcommand, `file` a file, `goal` a word of a goal, `a|b` one
+# of these words, `any` what isn't known; with + behind it any number of words.
 _ct_words() {
     case $1 in
     '')

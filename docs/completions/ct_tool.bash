@@ -1,9 +1,9 @@
-# Completion of ct_tool in bash: its subcommands, their options, and files where a file is wanted.
+# Completion of ct_tool in bash: its subcommands, their options, and words and files where they are wanted.
 # docs/man/make.py writes this file from what ct_tool --help prints.
 
 # What follows each subcommand, and with an empty word what follows the program: its options, those that take values
-# with what each value is, and its operands. `command` is a subcommand, `file` a file, `a|b` one of these words, `any`
-# what isn't known; with + behind it any number of words.
+# with what each value is, and its operands. `command` is a subcommand, `file` a file, `goal` a word of a goal, `a|b` one
+# of these words, `any` what isn't known; with + behind it any number of words.
 _ct_tool_words() {
     case $1 in
     '')
@@ -24,14 +24,14 @@ _ct_tool_words() {
         ;;
     diagram)
         options='--from --to --columns --member --only -h --help'
-        values='--from=any --to=any --columns=any --member=any --only=any'
+        values='--from=any --to=any --columns=any --member=any --only=consensus'
         operands='file'
         ;;
     find)
         options='--members --turns --rate --cells --submit --crash --postpone --lose --repeat --batch --every --scatter'
         options+=' --lasting --crashes --cut --goal --seeds --jobs --quiet --count --json --best --tries --record -h --help'
         values='--members=any --turns=any --rate=any --cells=any --submit=any --crash=any --postpone=any --lose=any'
-        values+=' --repeat=any --batch=any --every=any --scatter=any --lasting=any --crashes=any --cut=any --goal=any+'
+        values+=' --repeat=any --batch=any --every=any --scatter=any --lasting=any --crashes=any --cut=any --goal=goal+'
         values+=' --seeds=any --jobs=any --best=any --tries=any'
         operands=''
         ;;
@@ -62,7 +62,7 @@ _ct_tool_words() {
         ;;
     shrink)
         options='--goal --tries --record --quiet -h --help'
-        values='--goal=any --tries=any'
+        values='--goal=goal --tries=any'
         operands='file'
         ;;
     state)
@@ -79,8 +79,8 @@ _ct_tool_words() {
         options='--members --turns --seed --rate --cells --submit --crash --postpone --lose --repeat --batch --every --scatter'
         options+=' --lasting --crashes --cut --until --find --seeds -h --help'
         values='--members=any --turns=any --seed=any --rate=any --cells=any --submit=any --crash=any --postpone=any --lose=any'
-        values+=' --repeat=any --batch=any --every=any --scatter=any --lasting=any --crashes=any --cut=any --until=any+'
-        values+=' --find=any+ --seeds=any'
+        values+=' --repeat=any --batch=any --every=any --scatter=any --lasting=any --crashes=any --cut=any --until=goal+'
+        values+=' --find=goal+ --seeds=any'
         operands=''
         ;;
     help)
@@ -112,6 +112,10 @@ _ct_tool_answer() {
     file)
         compopt -o filenames -o bashdefault -o default 2>/dev/null
         mapfile -t COMPREPLY < <(compgen -f -- "$2")
+        ;;
+    goal)
+        mapfile -t COMPREPLY < <(compgen -W 'all any up ever never and crashed idle settled stuck instance round phase received decided delivered count
+            table waiting waits heard acked estimate may refuses suspects follows chooses concludes' -- "$2")
         ;;
     any) ;;
     *)

@@ -7,13 +7,24 @@ from reading import Entry, Help, Program
 
 WIDTH = 110
 
+# The words that goals begin with or have behind them; cases/run.sh compares them with those that the program names.
+GOAL_WORDS = ("all any up ever never and crashed idle settled stuck instance round phase received decided delivered count table waiting waits "
+              "heard acked estimate may refuses suspects follows chooses concludes")
+# What stands behind these options, which their help tells in words.
+KINDS = {"--goal": "goal", "--until": "goal", "--find": "goal", "--only": "consensus"}
+GOAL = """\
+    goal)
+        mapfile -t COMPREPLY < <(compgen -W '@WORDS@' -- "$2")
+        ;;
+"""
+
 HEAD = """\
-# Completion of @NAME@ in bash: its subcommands, their options, and files where a file is wanted.
+# Completion of @NAME@ in bash: its subcommands, their options, and words and files where they are wanted.
 # docs/man/make.py writes this file from what @NAME@ --help prints.
 
 # What follows each subcommand, and with an empty word what follows the program: its options, those that take values
-# with what each value is, and its operands. `command` is a subcommand, `file` a file, `a|b` one of these words, `any`
-# what isn't known; with + behind it any number of words.
+# with what each value is, and its operands. `command` is a subcommand, `file` a file, `goal` a word of a goal, `a|b` one
+# of these words, `any` what isn't known; with + behind it any number of words.
 _@NAME@_words() {
     case $1 in
 """
@@ -44,7 +55,7 @@ _@NAME@_answer() {
         compopt -o filenames -o bashdefault -o default 2>/dev/null
         mapfile -t COMPREPLY < <(compgen -f -- "$2")
         ;;
-    any) ;;
+@GOAL@    any) ;;
     *)
         mapfile -t COMPREPLY < <(compgen -W "${1//|/ }" -- "$2")
         ;;
@@ -102,7 +113,8 @@ def kind_of(entry: Entry) -> str:
 
 def values_of(option: Entry) -> list[str]:
     """For each name of the option what its values are."""
-    kinds = ",".join(value if "|" in value else kind_of(option) for value in option.values) + ("+" if option.is_repeated else "")
+    kind = KINDS.get(option.flags[0]) or kind_of(option)
+    kinds = ",".join(value if "|" in value else kind for value in option.values) + ("+" if option.is_repeated else "")
     return [f"{flag}={kinds}" for flag in option.flags] if option.values else []
 
 
@@ -140,4 +152,5 @@ def completion(program: Program) -> str:
     commands = [subcommand.name for subcommand in program.subcommands]
     cases = [case_of("''", {"commands": commands, **words_of(program.help), "operands": ["command"]})]
     cases += [case_of(subcommand.name, words_of(subcommand)) for subcommand in program.subcommands]
-    return (HEAD + "".join(cases) + TAIL).replace("@NAME@", program.name)
+    goal = GOAL.replace("@WORDS@", textwrap.fill(GOAL_WORDS, WIDTH, subsequent_indent=" " * 12)) if "=goal" in "".join(cases) else ""
+    return (HEAD + "".join(cases) + TAIL).replace("@NAME@", program.name).replace("@GOAL@", goal)
