@@ -171,6 +171,9 @@ class Wrong(unittest.TestCase):
             search(Setup(*interrupted(member("handlers"), 2)), range(5))
         self.assertEqual(str(raised.exception), "stopped after 2 of 5 seeds, none differs")
         self.assertTrue(raised.exception.__suppress_context__)
+        with self.assertRaises(KeyboardInterrupt) as raised:
+            search(Setup(*interrupted(member("handlers"), 0)), range(5), examples(3, MAX_BOUND))
+        self.assertEqual(str(raised.exception), "stopped before the first of 5 seeds, none differs")
         comes = "    def on_receive(self, packet: str) -> None:\n"
         made = member("task", [(comes, comes + "        raise KeyboardInterrupt\n")])
         with self.assertNoLogs("asyncio"):
@@ -335,7 +338,8 @@ class Used(unittest.TestCase):
                 self.addCleanup(os.close, end)
             with mock.patch.dict(os.environ, EACH="0"):
                 self.pytest(folder, "-k", "right", "--rehearse-seeds", "7", stdout=its)
-            self.assertRegex(os.read(mine, 1 << 16), rb"^\r1 of 7 seeds, \d+ s to go *\r2 of 7 seeds, .*\r +\r")
+            shown = rb"^\rbefore the seeds: run 1\r.*\r1 of 7 seeds, \d+ s to go *\r2 of 7 seeds, .*\r +\r"
+            self.assertRegex(os.read(mine, 1 << 16), shown)
 
     @staticmethod
     def pytest(folder: str, *words: str, stdout: int = subprocess.PIPE) -> str:

@@ -143,7 +143,7 @@ def search(setup: Setup, seeds: Sequence[int], schedules: Iterable[Schedule] = (
             progress.tell(lambda seconds: f"{count} of {len(seeds)} seeds, {seconds / count * (len(seeds) - count):.0f} s to go")
 
         try:
-            found = _through(setup, schedules, watchdog, done)
+            found = _through(setup, schedules, watchdog, done, lambda count: progress.tell(lambda _: f"before the seeds: run {count}"))
             if found is None and jobs != 1:
                 found = _in_parallel(setup, seeds, jobs, watchdog, done, tell)
             elif found is None:
@@ -153,7 +153,8 @@ def search(setup: Setup, seeds: Sequence[int], schedules: Iterable[Schedule] = (
                 done.failure = _failure(setup, *found, watchdog, make_small, progress)
         except KeyboardInterrupt:
             differs = f"{_name(found[0])} differs" if found else "none differs"
-            raise KeyboardInterrupt(f"stopped after {tried} of {len(seeds)} seeds, {differs}") from None
+            place = f"after {tried} of {len(seeds)} seeds" if tried else f"before the first of {len(seeds)} seeds"
+            raise KeyboardInterrupt(f"stopped {place}, {differs}") from None
     return done
 
 
