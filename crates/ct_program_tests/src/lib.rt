@@ -1,4 +1,5 @@
-//! The tests of the program `ct` as a library, which use its public calls alone.
+//! Tests of records and rehearsals by public calls: streams that fail at each place, a crash after each step of a list, free runs
+//! with each detector. What the programs show of them is looked at in cases/.
 #![tactic(auto)]
 
 #[cfg(test)]

@@ -2,10 +2,9 @@ ghost use Rattle.std.specs.Prelude.{IfOk};
 ghost use Rattle.ct_rehearse.specs.Plans.{IsWithin};
 
 use super::*;
-use ct_board::Board;
 use ct_detect::{Always, Ask, Detector, EveryNth, Listed, Never, Seeded};
-use ct_names::{Group, MAX_BOUND, MemberSet};
-use ct_rehearse::{Disturbance, Gate, Plan, Rehearsed, rehearse};
+use ct_names::MemberSet;
+use ct_rehearse::{Disturbance, Gate, Plan, rehearse};
 use std::sync::{Mutex, Wait};
 use std::thread::Threads;
 
@@ -19,10 +18,7 @@ impl Detector for Alternating {
     ghost last = { λ detector. detector.last };
 
     fn suspects(&mut self, ask: Ask) -> bool {
-        let answer = match self.last {
-            Some((_, answer)) => !answer,
-            None => true,
-        };
+        let answer = !self.last.is_some_and(|(_, answer)| answer);
         self.last = Some((ask, answer));
         answer
     }
@@ -50,31 +46,10 @@ fn disturbed(alloc: Global) -> Result<Plan, AllocError>
     })
 }
 
-// Three members and 64 cells without steps, and their board.
-fn started(alloc: Global) -> Option<(World, Board)> {
-    let group = Group::new(3)?;
-    let board = Board::new(alloc, 64).ok()?;
-    let world = World::new(alloc, group, 64, MAX_BOUND).ok()?;
-    Some((world, board))
-}
-
 // A gate that counts how often it is called before turns and after them.
 #[derive(Drop)]
 struct Counting {
     calls: Mutex<(u32, u32)>,
-}
-
-impl Counting {
-    fn new() -> Counting {
-        Counting {
-            calls: Mutex::new((0, 0)),
-        }
-    }
-
-    fn into_calls(self) -> (u32, u32) {
-        let Counting { calls } = self;
-        calls.into_inner()
-    }
 }
 
 impl Gate for Counting {
@@ -89,10 +64,7 @@ impl Gate for Counting {
     }
 }
 
-// The kinds of detectors: one that suspects nobody, always, the second member, at each third ask, at random, and by turns.
-const KINDS: u8 = 6;
-
-// A detector of this kind.
+// A detector of this kind: it suspects nobody, all, the second member, at each third ask, at random, or by turns.
 fn of_kind(alloc: Global, kind: u8) -> Option<Box<dyn Detector>> {
     Some(match kind {
         0 => Box::new(alloc, Never::new()).ok()?,
@@ -110,51 +82,42 @@ fn second() -> MemberSet {
     set
 }
 
-// Three detectors of this kind.
-fn three(alloc: Global, kind: u8) -> Option<Vec<Box<dyn Detector>>> {
+// What a rehearsal of three members with such detectors leaves.
+fn ran<R: Threads + Wait + Sync>(
+    rt: &R,
+    alloc: Global,
+    kind: u8,
+    plan: &Plan,
+    gate: &Counting,
+) -> Option<World>
+    requires { IsWithin plan.now }
+{
     let mut detectors: Vec<Box<dyn Detector>> = Vec::new(alloc);
     for _ in 0..3u8 {
         detectors.push(of_kind(alloc, kind)?).ok()?;
     }
-    Some(detectors)
-}
-
-// What a rehearsal of such detectors comes to.
-fn ran<R: Threads + Wait + Sync>(
-    rt: &R,
-    alloc: Global,
-    plan: &Plan,
-    detectors: Option<Vec<Box<dyn Detector>>>,
-    gate: &Counting,
-) -> Option<Rehearsed>
-    requires { IsWithin plan.now }
-{
-    let detectors = detectors?;
-    let (world, board) = started(alloc)?;
+    let (world, board) = World::replay(alloc, Group::new(3)?, 64, MAX_BOUND, &[]).ok()?;
     if usize::from(world.group().n()) != detectors.len() {
         return None;
     }
-    rehearse(rt, alloc, world, board, plan, detectors, gate).ok()
+    let done = rehearse(rt, alloc, world, board, plan, detectors, gate).ok()?;
+    Some(done.world)
 }
 
-// Whether more than the script's steps were made, and the world's report is that of its record's replay.
-fn reports_alike(alloc: Global, world: &World) -> bool {
-    world.record().len() > 5 && is_replayed(alloc, world)
-}
-
-// Runs three members with such detectors: whether all 605 turns pass the gate, members take steps, and the record replays.
+// Whether all 605 turns pass the gate, members take steps beside the script's, and the record is replayed.
 fn settles<R: Threads + Wait + Sync>(rt: &R, alloc: Global, kind: u8) -> Option<bool> {
     let plan = disturbed(alloc).ok()?;
-    let gate = Counting::new();
-    let done = ran(rt, alloc, &plan, three(alloc, kind), &gate)?;
-    let is_alike = reports_alike(alloc, &done.world);
-    drop(done);
-    Some(is_alike && gate.into_calls() == (605, 605))
+    let gate = Counting {
+        calls: Mutex::new((0, 0)),
+    };
+    let world = ran(rt, alloc, kind, &plan, &gate)?;
+    let Counting { calls } = gate;
+    Some(calls.into_inner() == (605, 605) && world.record().len() > 5 && is_replayed(alloc, &world))
 }
 
 #[test]
 fn a_settled_world_has_the_report_of_its_replay(rt: HostRuntime) {
-    for kind in 0..KINDS {
+    for kind in 0..6u8 {
         assert_eq!(rt; settles(&rt, rt.alloc(), kind), Some(true), "kind {kind}");
     }
 }
