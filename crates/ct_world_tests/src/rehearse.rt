@@ -1,11 +1,11 @@
 ghost use Rattle.std.specs.Prelude.{◌≡◌, ◌≤◌, OnSome};
 ghost use Rattle.ct_rehearse.specs.Plans.{IsWithin, entries};
 
-use ct_board::Board;
-use ct_detect::{Detector, EveryNth, Never};
+use ct_board::{Board, Watcher};
+use ct_detect::{Detector, Never};
 use ct_model::Step;
 use ct_names::{Command, Group, MAX_BOUND};
-use ct_rehearse::{Desk, Disturbance, Gate, Hall, Made, NoGate, Plan, Share, Turn, disturb, turn};
+use ct_rehearse::{Desk, Disturbance, Gate, Hall, Made, NoGate, Plan, Share};
 use ct_world::World;
 use std::alloc::{AllocError, Global};
 use std::marker::Brand;
@@ -14,45 +14,15 @@ use std::sync::ledger::{Blank, Ledger};
 use std::test::Fail;
 use std::thread::Threads;
 
-mod following;
 mod meeting;
 mod runs;
-mod turning;
 mod watching;
 
 const SEVEN: Command = Command::Set(0, 7);
 
-// A world of n members and four cells without steps, and its board.
-fn started(alloc: Global, n: u8) -> Option<(World, Board)> {
-    let group = Group::new(n)?;
-    let world = World::new(alloc, group, 4, MAX_BOUND).ok()?;
-    let board = Board::new(alloc, 4).ok()?;
-    Some((world, board))
-}
-
-// Does the steps, and answers whether all were done.
-fn does_all(world: &mut World, board: &Board, steps: &[Step]) -> bool {
-    for step in steps {
-        if world.apply(board, step).is_err() {
-            return false;
-        }
-    }
-    true
-}
-
-// The world and its board after these steps too, where all were done.
-fn after(start: Option<(World, Board)>, steps: &[Step]) -> Option<(World, Board)> {
-    let (mut world, board) = start?;
-    if does_all(&mut world, &board, steps) {
-        Some((world, board))
-    } else {
-        None
-    }
-}
-
-// Such a world, in which the first member has submitted a message, and its board.
-fn submitted(alloc: Global, n: u8) -> Option<(World, Board)> {
-    after(started(alloc, n), &[Step::Submit(1, SEVEN)])
+// A world of n members and four cells after these steps, and its board.
+fn after(alloc: Global, n: u8, steps: &[Step]) -> Option<(World, Board)> {
+    World::replay(alloc, Group::new(n)?, 4, MAX_BOUND, steps).ok()
 }
 
 // Detectors of n members that suspect nobody.

@@ -1,9 +1,8 @@
-ghost use Rattle.std.specs.Prelude.{◌≡◌, ℕ, IsTrue};
-ghost use Rattle.ct_rounds.specs.Inbox.{has_room};
+ghost use Rattle.std.specs.Prelude.{◌≡◌};
 
 use ct_names::{Member, Round, ValueId};
 use ct_rounds::{Inbox, Wire};
-use std::alloc::Global;
+use std::alloc::{AllocError, Global};
 use std::test::Fail;
 
 fn est(from: Member, number: u32, ts: Round) -> Wire
@@ -19,11 +18,20 @@ fn est(from: Member, number: u32, ts: Round) -> Wire
     }
 }
 
-// Whether the best of round 3 is right after each of four estimates.
-fn hears_four(inbox: &mut Inbox) -> bool
-    requires { IsTrue (has_room inbox.old 3) }
-    ensures { (r : ℕ) → has_room inbox.new r ≡ has_room inbox.old r }
-{
+// Whether of the four members that were heard those with the largest ts are 2 and 3, and member 2's value is its first.
+fn has_two_largest(inbox: &Inbox) -> bool {
+    inbox.largest(3, 3)
+        && !inbox.largest(3, 1)
+        && inbox.heard(3).len() == 4
+        && inbox.best(3) == Some(2)
+        && inbox.estimate(3, 2) == Some(ValueId::new(20))
+}
+
+// Whether the best of round 3 is right after each of four estimates, a second one of a member changes nothing, and a copy has
+// what was heard.
+fn hears(alloc: Global) -> Result<bool, AllocError> {
+    let mut inbox = Inbox::new(alloc);
+    inbox.prepare(3)?;
     inbox.note(&est(4, 40, 0));
     let first = inbox.best(3) == Some(4);
     inbox.note(&est(3, 30, 2));
@@ -31,35 +39,14 @@ fn hears_four(inbox: &mut Inbox) -> bool
     inbox.note(&est(2, 20, 2));
     let lesser = inbox.best(3) == Some(2);
     inbox.note(&est(1, 10, 1));
-    first && later && lesser && inbox.best(3) == Some(2)
-}
-
-// Whether of the four members that were heard those with the largest ts are 2 and 3, and member 2's value is its first.
-fn has_two_largest(inbox: &Inbox) -> bool {
-    inbox.largest(3, 3)
-        && inbox.largest(3, 2)
-        && !inbox.largest(3, 1)
-        && inbox.heard(3).len() == 4
-        && inbox.best(3) == Some(2)
-        && inbox.estimate(3, 2) == Some(ValueId::new(20))
-}
-
-// Whether a second estimate of a member changes nothing, and a copy has what was heard before.
-fn hears(inbox: &mut Inbox, alloc: Global) -> Result<bool, Fail> {
-    inbox.prepare(3)?;
-    let copy = inbox.copy(alloc)?;
-    let heard = hears_four(inbox) && has_two_largest(inbox);
+    let heard = has_two_largest(&inbox);
     inbox.note(&est(2, 21, 9));
-    let kept = has_two_largest(inbox);
-    Ok(heard && kept && copy.has_room(3) && copy.best(3).is_none())
-}
-
-fn hears_in_round(alloc: Global) -> Result<bool, Fail> {
-    hears(&mut Inbox::new(alloc), alloc)
+    let copy = inbox.copy(alloc)?;
+    Ok(first && later && lesser && heard && has_two_largest(&inbox) && has_two_largest(&copy))
 }
 
 #[test]
 fn the_best_is_the_least_with_the_largest_ts(rt: HostRuntime) -> Result<(), Fail> {
-    assert!(rt; hears_in_round(rt.alloc())?);
+    assert!(rt; hears(rt.alloc())?);
     Ok(())
 }
