@@ -5,15 +5,12 @@
 ghost use Rattle.std.specs.Prelude.{◌≡◌};
 ghost use Rattle.ct_growths.specs.declared.free_run.TheConstants.{PARTS};
 
-mod fault;
 mod free_run;
 mod one_by_one;
-mod starting;
 
-use crate::fault::Fault;
 use crate::free_run::{PARTS, free_run};
 use crate::one_by_one::do_one_by_one;
-use ct_records::report;
+use ct_records::{ProgramFault, report};
 use ct_rehearse::{Made, RunFault};
 use std::alloc::{AllocError, Global};
 use std::io;
@@ -53,40 +50,21 @@ fn tried<L: Ledger + Send + Sync, R: Threads + Wait + Sync>(
     rt: &HostRuntime,
     threads: &R,
     blank: Blank,
-) -> Result<Vec<u8>, Fault>
+) -> Result<Vec<u8>, ProgramFault>
     requires name { blank.name ≡ L.name }
     requires parts { blank.parts ≡ L.parts }
     requires whole { L.parts ≡ PARTS }
 {
     let alloc = rt.alloc();
     let record = input(rt)?;
-    let told = told_one_by_one(alloc, &record);
-    drop(record);
-    let mut text = told?;
-    match push_free_run::<L, R>(threads, alloc, blank, &mut text) {
-        Ok(()) => Ok(text),
-        Err(fault) => {
-            drop(text);
-            Err(fault)
-        }
-    }
-}
-
-// Puts behind the text what the turns of a free run came to.
-fn push_free_run<L: Ledger + Send + Sync, R: Threads + Wait + Sync>(
-    threads: &R,
-    alloc: Global,
-    blank: Blank,
-    text: &mut Vec<u8>,
-) -> Result<(), Fault>
-    requires name { blank.name ≡ L.name }
-    requires parts { blank.parts ≡ L.parts }
-    requires whole { L.parts ≡ PARTS }
-{
+    let mut text = told_one_by_one(alloc, &record)?;
     let made = free_run::<L, R>(threads, alloc, blank)?;
-    push_told(text, told_run(alloc, made)?)
+    let told = told_run(alloc, made)?;
+    text.extend_from_slice(told.as_bytes())?;
+    Ok(text)
 }
 
+// What the turns of a free run came to.
 fn told_run(alloc: Global, made: Result<Made, RunFault>) -> Result<String, AllocError> {
     match made {
         Ok(made) => format!(in alloc;
@@ -97,52 +75,26 @@ fn told_run(alloc: Global, made: Result<Made, RunFault>) -> Result<String, Alloc
     }
 }
 
-fn push_told(text: &mut Vec<u8>, told: String) -> Result<(), Fault> {
-    let pushed = text.extend_from_slice(told.as_bytes());
-    drop(told);
-    Ok(pushed?)
-}
-
 // The report of the record, and the last of its steps that was refused for want of memory.
-fn told_one_by_one(alloc: Global, record: &[u8]) -> Result<Vec<u8>, Fault> {
+fn told_one_by_one(alloc: Global, record: &[u8]) -> Result<Vec<u8>, ProgramFault> {
     let (world, refused) = do_one_by_one(alloc, record)?;
-    let told = report(alloc, &world);
-    drop(world);
-    let mut text = told?;
-    match push_refused(alloc, &mut text, refused) {
-        Ok(()) => Ok(text),
-        Err(fault) => {
-            drop(text);
-            Err(fault)
-        }
-    }
+    let mut text = report(alloc, &world)?;
+    let told = format!(in alloc; "refused at step {refused}\n")?;
+    text.extend_from_slice(told.as_bytes())?;
+    Ok(text)
 }
 
-fn push_refused(alloc: Global, text: &mut Vec<u8>, refused: usize) -> Result<(), Fault> {
-    push_told(text, format!(in alloc; "refused at step {refused}\n")?)
-}
-
-fn input(rt: &HostRuntime) -> Result<Vec<u8>, Fault> {
+fn input(rt: &HostRuntime) -> Result<Vec<u8>, ProgramFault> {
     let mut bytes = Vec::new(rt.alloc());
-    match read_all(rt, &mut bytes) {
-        Ok(()) => Ok(bytes),
-        Err(fault) => {
-            drop(bytes);
-            Err(fault)
-        }
-    }
-}
-
-fn read_all(rt: &HostRuntime, bytes: &mut Vec<u8>) -> Result<(), Fault> {
-    match rt.reader().read_to_end(bytes) {
-        Ok(_) => Ok(()),
+    match rt.reader().read_to_end(&mut bytes) {
+        Ok(_) => Ok(bytes),
         Err(error) => Err(input_fault(&error)),
     }
 }
 
-fn input_fault(error: &io::Error) -> Fault {
+fn input_fault(error: &io::Error) -> ProgramFault {
     match error.kind() {
-        io::ErrorKind::OutOfMemory => Fault::Memory,
-        _ => Fault::Input,
+        io::ErrorKind::OutOfMemory => ProgramFault::Memory,
+        _ => ProgramFault::Reader,
     }
 }

@@ -1,40 +1,29 @@
 //! The steps of a record, one by one.
 
-use crate::fault::Fault;
-use crate::starting::started;
 use ct_board::Board;
 use ct_model::Step;
 use ct_names::{Member, Refusal};
-use ct_records::{Script, read_record};
+use ct_records::{ProgramFault, read_record};
 use ct_world::World;
 use std::alloc::Global;
 use std::mem;
 
 /// Does the steps of the record, each at the second try where memory was refused at the first; the world must then be as
 /// it was before. The world after all steps, and the number of the last step that was refused; 0 where none was.
-pub fn do_one_by_one(alloc: Global, record: &[u8]) -> Result<(World, usize), Fault> {
+pub fn do_one_by_one(alloc: Global, record: &[u8]) -> Result<(World, usize), ProgramFault> {
     let script = read_record(alloc, record)?;
-    let done = do_script(alloc, &script);
-    drop(script);
-    done
-}
-
-// The same of what the record says.
-fn do_script(alloc: Global, script: &Script) -> Result<(World, usize), Fault> {
-    let (mut world, board) = started(alloc, script.group, script.cells, script.batch)?;
-    let done = do_all(alloc, &mut world, &board, &script.steps);
-    drop(board);
-    match done {
-        Ok(refused) => Ok((world, refused)),
-        Err(fault) => {
-            drop(world);
-            Err(fault)
-        }
-    }
+    let (mut world, board) = World::replay(alloc, script.group, script.cells, script.batch, &[])?;
+    let refused = do_all(alloc, &mut world, &board, &script.steps)?;
+    Ok((world, refused))
 }
 
 // Does the steps one by one. The number of the last step that was refused.
-fn do_all(alloc: Global, world: &mut World, board: &Board, steps: &[Step]) -> Result<usize, Fault> {
+fn do_all(
+    alloc: Global,
+    world: &mut World,
+    board: &Board,
+    steps: &[Step],
+) -> Result<usize, ProgramFault> {
     let mut refused = 0;
     for (i, step) in steps.iter().enumerate() {
         if !do_one(alloc, world, board, step)? {
@@ -46,8 +35,15 @@ fn do_all(alloc: Global, world: &mut World, board: &Board, steps: &[Step]) -> Re
 
 // Does the step, and answers whether it was done at the first try. It is done in a copy of the world before it, which
 // has no room to spare, so that each step has to ask for memory.
-fn do_one(alloc: Global, world: &mut World, board: &Board, step: &Step) -> Result<bool, Fault> {
-    let mut next = world.copy(alloc)?;
+fn do_one(
+    alloc: Global,
+    world: &mut World,
+    board: &Board,
+    step: &Step,
+) -> Result<bool, ProgramFault> {
+    let Ok(mut next) = world.copy(alloc) else {
+        return Err(ProgramFault::Memory);
+    };
     let done = do_at_last(world, &mut next, board, step);
     let before = mem::replace(world, next);
     drop(before);
@@ -60,18 +56,16 @@ fn do_at_last(
     world: &mut World,
     board: &Board,
     step: &Step,
-) -> Result<bool, Fault> {
+) -> Result<bool, ProgramFault> {
     match world.apply(board, step) {
         Ok(_) => return Ok(true),
         Err(Refusal::OutOfMemory) => {}
-        Err(refusal) => return Err(Fault::from(refusal)),
+        Err(refusal) => return Err(ProgramFault::Replay { at: 0, refusal }),
     }
-    if !is_same(before, world) {
-        return Err(Fault::Changed);
-    }
-    match world.apply(board, step) {
-        Ok(_) => Ok(false),
-        Err(_) => Err(Fault::Twice),
+    if is_same(before, world) && world.apply(board, step).is_ok() {
+        Ok(false)
+    } else {
+        Err(ProgramFault::Exchanged)
     }
 }
 
