@@ -11,7 +11,6 @@ pub mod DrawnTexts
 pub mod Expecting
 pub mod Finding
 pub mod Hearing
-pub mod LetterFacts
 pub mod MemberFacts
 pub mod MildTexts
 pub mod Numbered

@@ -1,84 +1,111 @@
 -- What is told of a refused step is true.
-use Rattle.std.proofs.Common.{◌≡◌, ◌+◌, ℕ, zero, suc, Bool, true, List, [], ◌∷◌, refl, ap, sym, ◌∙◌}
-use Rattle.std.proofs.Common.{subst, append-nil, arith, position}
+use Rattle.std.proofs.Common.{◌≡◌, ◌+◌, ◌≤◌, inl, inr, ℕ, zero, suc, Bool, true, false, List, [], ◌∷◌, refl, ap, sym, ◌∙◌}
+use Rattle.std.proofs.Common.{subst, append-nil, arith, get_or, length, position}
 use Rattle.std.proofs.lemmas.Bool.Decides.{nat_tests}
-use Rattle.std.specs.Prelude.{Option, Some, None, option_map, slice_get}
+use Rattle.std.proofs.lemmas.List.Quantifiers.{position-Some}
+use Rattle.std.proofs.lemmas.Option.{slice_get-get_or}
+use Rattle.std.proofs.Math.Nat.{eq-or-lt_of_le}
+use Rattle.std.specs.Prelude.{if◌then◌else◌, Option, Some, None, option_and_then, option_map, slice_get, unwrap_or}
 use Rattle.ct_names.specs.Group.{IsMember}
 use Rattle.ct_names.specs.declared.refusal.Refusal.{Refusal}
 use Rattle.ct_names.specs.declared.refusal.Refusal.TheVariants as refusal
+use Rattle.ct_names.proofs.Lists.{contrary}
 use Rattle.ct_model.specs.Actor.{actor}
+use Rattle.ct_model.specs.AtValue.{Envelope}
 use Rattle.ct_model.specs.Cause.{cause, limit}
-use Rattle.ct_model.specs.Rehearsal.{Rehearsal, line_of}
+use Rattle.ct_model.specs.Mapped.{without_value}
+use Rattle.ct_model.specs.Rehearsal.{Rehearsal, line_of, state_of}
 use Rattle.ct_model.specs.State.{at_serial}
 use Rattle.ct_model.specs.Waiting.{has_serial}
+use Rattle.ct_model.specs.Wire.{value_of}
 use Rattle.ct_model.specs.declared.step.Step.{Step}
 use Rattle.ct_model.specs.declared.step.Step.TheVariants as step
-use Rattle.ct_show.specs.Facts.{facts_text, serial_facts}
-use Rattle.ct_judging.specs.Refusing.{crash_of, crash_text, is_crash_of, limit_of, reason_text}
-use Rattle.ct_laws.specs.Behind.{NameActor, NameEnvelope, NameReason, TellsFacts, serial_in}
-use Rattle.ct_laws.specs.Facts.{Fact}
-use Rattle.ct_laws.specs.Facts.Fact.{AtMost, CrashedIn, Members, Registers}
-use Rattle.ct_laws.proofs.LetterFacts.{tells_letter}
-use Rattle.ct_laws.proofs.MemberFacts.{tells_member}
+use Rattle.ct_model.proofs.Basics.Options.{some-same}
+use Rattle.ct_show.specs.Facts.Fact.{CrashedIn}
+use Rattle.ct_show.specs.Facts.{facts_of, facts_text, last_taking, letter_facts, place, returns, takes, taking_or, texts_of}
+use Rattle.ct_judging.specs.Refusing.{crash_of, crash_text, is_crash_of, reason_text}
+use Rattle.ct_laws.specs.Facts.{AreTrue, HasCrashed, HasLeft, Tells, reasons_of, serial_in}
+use Rattle.ct_laws.proofs.MemberFacts.{standing_true}
 
--- ---- a refusal since the envelope waits
+-- ---- the last step that takes a serial
 
--- of the steps that name an envelope only a repeat is refused so
-receive_waits : (w : Rehearsal) (p k : ℕ) → cause w (step.Receive p k) ≡ Some refusal.StillWaiting → has_serial k (line_of w p) ≡ true
-unfolding cause limit
-receive_waits w p k h = grind arith
+module _ (steps : List Step) (k i : ℕ) where
+  -- the next step neither takes it nor puts it back
+  goes_on : (before : Option (ℕ × Step)) →
+      ((t : Step) → slice_get steps i ≡ Some t → (takes t k ≡ false) × (returns t k ≡ false)) → HasLeft steps k i before →
+      HasLeft steps k (suc i) before
+  goes_on None passes h = λ n s l. elim (eq-or-lt_of_le l.within) [
+    | inl same ↦ contrary (takes s k) l.taken (passes s (subst (λ n. at_serial steps n ≡ Some s) same l.there)).0
+    | inr less ↦ h n s (record {
+      within = omega (arith, less);
+      there = l.there;
+      taken = l.taken;
+      last = λ later other low high at. l.last later other low (omega (arith, high)) at;
+    })
+  ]
+  goes_on (Some t) passes h = record {
+    within = omega (arith, h.within);
+    there = h.there;
+    taken = h.taken;
+    last = λ later other low high at. elim (eq-or-lt_of_le high) [
+      | inl same ↦ passes other (subst (λ n. at_serial steps n ≡ Some other) same at)
+      | inr less ↦ h.last later other low (omega (arith, less)) at
+    ];
+  }
 
-postpone_waits : (w : Rehearsal) (p k : ℕ) → cause w (step.Postpone p k) ≡ Some refusal.StillWaiting → has_serial k (line_of w p) ≡ true
-unfolding cause limit
-postpone_waits w p k h = grind arith
+  -- it does one of these, or neither
+  by_tests : (before : Option (ℕ × Step)) (t : Step) (taking returning : Bool) → takes t k ≡ taking → returns t k ≡ returning →
+      slice_get steps i ≡ Some t → HasLeft steps k i before →
+      HasLeft steps k (suc i) (if taking then Some (suc i, t) else (if returning then None else before))
+  by_tests before t true returning is back at h = record {
+    within = omega arith;
+    there = at;
+    taken = is;
+    last = λ later other low high there. absurd (omega (arith, low, high));
+  }
+  by_tests before t false true is back at h = λ n s l. elim (eq-or-lt_of_le l.within) [
+    | inl same ↦
+        contrary (takes s k) l.taken
+        (subst (λ x. takes x k ≡ false) (some-same t s (sym at ∙ subst (λ n. at_serial steps n ≡ Some s) same l.there)) is)
+    | inr less ↦ contrary (returns t k) back (l.last (suc i) t less (omega arith) at).1
+  ]
+  by_tests before t false false is back at h =
+      goes_on before (λ x there. subst (λ y. (takes y k ≡ false) × (returns y k ≡ false)) (some-same t x (sym at ∙ there)) (is, back)) h
 
-lose_waits : (w : Rehearsal) (p k : ℕ) → cause w (step.Lose p k) ≡ Some refusal.StillWaiting → has_serial k (line_of w p) ≡ true
-unfolding cause limit
-lose_waits w p k h = grind arith
+  next_left : (before : Option (ℕ × Step)) (o : Option Step) → slice_get steps i ≡ o → HasLeft steps k i before →
+      HasLeft steps k (suc i) (taking_or before k (suc i) o)
+  next_left before None at h = goes_on before (λ t there. absurd (cc (sym at ∙ there))) h
+  next_left before (Some t) at h = by_tests before t (takes t k) (returns t k) refl refl at h
 
-repeat_waits : (w : Rehearsal) (p k : ℕ) → cause w (step.Repeat p k) ≡ Some refusal.StillWaiting → has_serial k (line_of w p) ≡ true
-unfolding cause limit
-repeat_waits w p k h = grind arith
+pub has_left : (steps : List Step) (k count : ℕ) → HasLeft steps k count (last_taking steps k count)
+has_left steps k zero = λ n s l. none n l.within l.there
+  where
+    none : {s : Step} (n : ℕ) → n ≤ 0 → at_serial steps n ≡ Some s → ⊥
+    none zero low at = cc at
+    none (suc n) low at = omega (arith, low)
+has_left steps k (suc i) = next_left steps k i (last_taking steps k i) (slice_get steps i) refl (has_left steps k i)
 
--- ---- the line of a step
+-- ---- the envelope that a step names
 
-of_letter : (w : Rehearsal) (s : Step) (r : Refusal) →
-    ((facts : List Fact) → NameEnvelope w (serial_in s) r facts → NameActor w s r facts) →
-    (r ≡ refusal.StillWaiting → has_serial (serial_in s) (line_of w (actor s)) ≡ true) →
-    TellsFacts w s r (NameActor w s r) (serial_facts w (serial_in s) r)
-of_letter w s r these waits =
-    let t = tells_letter w (actor s) (serial_in s) r waits in
-    record { facts = t.facts; is = t.is; are = t.are; these = these t.facts t.these }
+module _ (w : Rehearsal) (p k : ℕ) where
+  place_true : (r : Refusal) (e : Envelope) → at_serial (state_of w).sent k ≡ Some e →
+      (r ≡ refusal.StillWaiting → has_serial k (line_of w p) ≡ true) → AreTrue w p k r (place w k e.to r)
+  place_true refusal.NotSent e is waits = ((e, is, refl), tt)
+  place_true refusal.StillWaiting e is waits = (waits refl, tt)
+  place_true refusal.NotWaiting e is waits = ((e, is, refl), (has_left w.steps k (length w.steps), tt))
+  place_true _ e is waits = ((e, is, refl), tt)
 
-pub tells_step : (w : Rehearsal) (s : Step) (r : Refusal) → cause w s ≡ Some r → IsMember w.setting.members (actor s) →
-    TellsFacts w s r (NameActor w s r) (facts_text w s r)
-tells_step w (step.Receive p k) r h there =
-    of_letter w (step.Receive p k) r (λ facts named. named) (λ same. receive_waits w p k (h ∙ ap Some same))
-tells_step w (step.Postpone p k) r h there =
-    of_letter w (step.Postpone p k) r (λ facts named. named) (λ same. postpone_waits w p k (h ∙ ap Some same))
-tells_step w (step.Lose p k) r h there =
-    of_letter w (step.Lose p k) r (λ facts named. named) (λ same. lose_waits w p k (h ∙ ap Some same))
-tells_step w (step.Repeat p k) r h there =
-    of_letter w (step.Repeat p k) r (λ facts named. named) (λ same. repeat_waits w p k (h ∙ ap Some same))
-tells_step w s r h there =
-    let t = tells_member w (actor s) there in
-    record { facts = t.facts; is = t.is; are = t.are (serial_in s) r; these = t.these }
+  sent_true : (r : Refusal) (o : Option Envelope) → at_serial (state_of w).sent k ≡ o →
+      (r ≡ refusal.StillWaiting → has_serial k (line_of w p) ≡ true) → AreTrue w p k r (letter_facts w k (option_map without_value o) r)
+  sent_true r None is waits = ((refl, is, refl), tt)
+  sent_true r (Some e) is waits =
+      let carried = ap (λ o. unwrap_or (option_and_then (λ (e : Envelope). value_of e.wire) o) []) is in
+      ((refl, (e, is, (refl, carried))), place_true r e is waits)
 
 -- ---- the step in which a member crashed
 
-position_is : {A : Type 0} (test : A → Bool) (xs : List A) (i : ℕ) → position test xs ≡ Some i →
-    (y : A) × (slice_get xs i ≡ Some y) × (test y ≡ true)
-position_is test [] i h = absurd (cc h)
-position_is test (x ∷ xs) i h = grind (arith, nat_tests, position_is test xs)
-
 crash_is : (p : ℕ) (s : Step) → is_crash_of p s ≡ true → s ≡ step.Crash p
 crash_is p s h = grind (arith, nat_tests)
-
-crash_at : (w : Rehearsal) (p i : ℕ) → position (is_crash_of p) w.steps ≡ Some i → at_serial w.steps (i + 1) ≡ Some (step.Crash p)
-crash_at w p i h =
-    let f = position_is (is_crash_of p) w.steps i h in
-    let next : suc i ≡ i + 1 = omega arith in
-    subst (λ n. at_serial w.steps n ≡ Some (step.Crash p)) next (f.1 ∙ ap Some (crash_is p f.0 f.2))
 
 no_crash : (p : ℕ) (steps : List Step) (number : ℕ) → position (is_crash_of p) steps ≡ None →
     at_serial steps number ≡ Some (step.Crash p) → ⊥
@@ -86,35 +113,48 @@ no_crash p steps zero none at = cc at
 no_crash p [] (suc i) none at = cc at
 no_crash p (s ∷ steps) (suc i) none at = grind (arith, nat_tests, no_crash p steps i)
 
-tells_crash_by : (w : Rehearsal) (s : Step) (o : Option ℕ) → position (is_crash_of (actor s)) w.steps ≡ o →
-    TellsFacts w s refusal.Crashed (NameReason w s refusal.Crashed) (crash_text (option_map (λ i. i + 1) o))
-tells_crash_by w s None is =
-    record { facts = []; is = refl; are = tt; these = λ number at. no_crash (actor s) w.steps number is at }
-tells_crash_by w s (Some i) is = record {
-  facts = CrashedIn (i + 1) ∷ [];
-  is = sym (append-nil _);
-  are = (crash_at w (actor s) i is, tt);
-  these = (i + 1, refl, refl);
-}
-
-tells_crash : (w : Rehearsal) (s : Step) →
-    TellsFacts w s refusal.Crashed (NameReason w s refusal.Crashed) (crash_text (crash_of w.steps (actor s)))
+crashed : (steps : List Step) (p : ℕ) → HasCrashed steps p (crash_of steps p)
 unfolding crash_of
-tells_crash w s = tells_crash_by w s (position (is_crash_of (actor s)) w.steps) refl
+crashed steps p = by (position (is_crash_of p) steps) refl
+  where
+    by : (o : Option ℕ) → position (is_crash_of p) steps ≡ o → HasCrashed steps p (option_map (λ i. i + 1) o)
+    by None is = λ number at. no_crash p steps number is at
+    by (Some i) is =
+        let f = position-Some (is_crash_of p) steps i (step.Crash p) is in
+        let next : suc i ≡ i + 1 = omega arith in
+        subst (λ n. at_serial steps n ≡ Some (step.Crash p)) next
+        (slice_get-get_or steps i (step.Crash p) f.0 ∙ ap Some (crash_is p (get_or steps i (step.Crash p)) f.1))
 
--- ---- a refusal of a line
+-- ---- a step, and its line
+
+steps_true : (w : Rehearsal) (s : Step) (r : Refusal) → cause w s ≡ Some r → IsMember w.setting.members (actor s) →
+    AreTrue w (actor s) (serial_in s) r (facts_of w s r)
+unfolding cause limit
+steps_true w (step.Receive p k) r h there = sent_true w p k r (at_serial (state_of w).sent k) refl (λ same. grind arith)
+steps_true w (step.Postpone p k) r h there = sent_true w p k r (at_serial (state_of w).sent k) refl (λ same. grind arith)
+steps_true w (step.Lose p k) r h there = sent_true w p k r (at_serial (state_of w).sent k) refl (λ same. grind arith)
+steps_true w (step.Repeat p k) r h there = sent_true w p k r (at_serial (state_of w).sent k) refl (λ same. grind arith)
+steps_true w s r h there = standing_true w (actor s) (serial_in s) r there
+
+pub tells_step : (w : Rehearsal) (s : Step) (r : Refusal) → cause w s ≡ Some r → IsMember w.setting.members (actor s) →
+    Tells w (actor s) (serial_in s) r (facts_of w s r) (facts_text w s r)
+unfolding facts_text
+tells_step w s r h there = record { is = refl; are = steps_true w s r h there }
 
 member_there : (w : Rehearsal) (s : Step) (r : Refusal) → cause w s ≡ Some r → (r ≡ refusal.NoSuchMember → ⊥) →
     IsMember w.setting.members (actor s)
 unfolding cause
 member_there w s r h other = grind (arith, nat_tests)
 
+crash_told : (o : Option ℕ) → crash_text o ≡ texts_of (CrashedIn o ∷ [])
+crash_told None = refl
+crash_told (Some number) = sym (append-nil _)
+
 pub tells_line : (w : Rehearsal) (s : Step) (r : Refusal) → cause w s ≡ Some r →
-    TellsFacts w s r (NameReason w s r) (reason_text w s r)
-tells_line w s refusal.NoSuchMember h =
-    record { facts = Members w.setting.members ∷ []; is = sym (append-nil _); are = (refl, tt); these = refl }
-tells_line w s refusal.Crashed h = tells_crash w s
-tells_line w s refusal.BadCommand h = record { facts = Registers ∷ []; is = sym (append-nil _); are = (tt, tt); these = refl }
-tells_line w s (refusal.Full l) h =
-    record { facts = AtMost (limit_of w l) ∷ []; is = sym (append-nil _); are = ((l, refl, refl), tt); these = refl }
+    Tells w (actor s) (serial_in s) r (reasons_of w s r) (reason_text w s r)
+tells_line w s refusal.NoSuchMember h = record { is = sym (append-nil _); are = (refl, tt) }
+tells_line w s refusal.Crashed h =
+    record { is = crash_told (crash_of w.steps (actor s)); are = (crashed w.steps (actor s), tt) }
+tells_line w s refusal.BadCommand h = record { is = sym (append-nil _); are = (tt, tt) }
+tells_line w s (refusal.Full l) h = record { is = sym (append-nil _); are = ((l, refl, refl), tt) }
 tells_line w s r h = tells_step w s r h (member_there w s r h (λ same. cc same))

@@ -1,79 +1,26 @@
 -- The facts that are told of a refused step, and when each is true.
-use Rattle.std.specs.Prelude.{◌≡◌, ◌⊎◌, ◌<◌, ℕ, true, List, [], ◌∷◌, ◌++◌, length, codes, decimal, Some, None, unwrap_or, ⊤}
-use Rattle.std.specs.List.{concat}
-use Rattle.ct_names.specs.Group.{coordinator, everyone}
+use Rattle.std.specs.Prelude.{◌≡◌, ◌⊎◌, ◌<◌, ◌≤◌, ℕ, true, false, List, [], ◌∷◌, length, Option, Some, None, unwrap_or, ⊤}
+use Rattle.ct_names.specs.Group.{IsMember, coordinator, everyone}
 use Rattle.ct_names.specs.Membership.{IsIn, IsWithoutRepeats}
 use Rattle.ct_names.specs.Value.{Value}
 use Rattle.ct_names.specs.declared.limit.Limit.{Limit}
 use Rattle.ct_names.specs.declared.refusal.Refusal.{Refusal}
-use Rattle.ct_names.specs.declared.refusal.Refusal.TheVariants.{Full}
+use Rattle.ct_names.specs.declared.refusal.Refusal.TheVariants as refusals
+use Rattle.ct_model.specs.Actor.{actor}
 use Rattle.ct_model.specs.AtValue.{Envelope, Standing, Wire}
 use Rattle.ct_model.specs.Mapped.{wire_map}
 use Rattle.ct_model.specs.Rehearsal.{Rehearsal, line_of, state_of}
 use Rattle.ct_model.specs.State.{at_serial}
-use Rattle.ct_model.specs.StepText.{step_text}
 use Rattle.ct_model.specs.Waiting.{has_serial}
 use Rattle.ct_model.specs.Wire.{value_of}
-use Rattle.ct_model.specs.declared.phase.Phase.{Phase}
 use Rattle.ct_model.specs.declared.step.Step.{Step}
-use Rattle.ct_model.specs.declared.step.Step.TheVariants.{Crash, Lose, Receive, Repeat}
+use Rattle.ct_model.specs.declared.step.Step.TheVariants.{Crash, Lose, Postpone, Receive, Repeat}
 use Rattle.ct_model.specs.declared.wire.Wire.TheVariants.{Ack, Est, Nack}
 use Rattle.ct_world.specs.World.{member_of}
-use Rattle.ct_text.specs.Shapes.{estimate_text, phase_text}
-use Rattle.ct_show.specs.Wires.{wire_text}
-use Rattle.ct_judging.specs.Refusing.{limit_of}
-
--- ---- the facts
-
--- of the member that takes the step: the last instance that it began; that none is open; its round there and its phase; the
--- coordinator of that round; its estimate and ts; an estimate that it heard; how many acked the round, and how many replied.
--- Of the envelope that the step names: that it wasn't sent, and how many were; what it carries; to whom it goes; that it waits; the
--- step in which it left its line. Of others: the step in which the member crashed; how many members there are; what the registers
--- are; the limit that would be passed
-pub data Fact : Type 0 where
-  Began : (instance : ℕ) → Fact
-  Idle : Fact
-  InRound : (round : ℕ) (phase : Phase) → Fact
-  LedBy : (member : ℕ) → Fact
-  Holds : (estimate : Value) (ts : ℕ) → Fact
-  Heard : (sender : ℕ) (estimate : Value) (ts : ℕ) → Fact
-  Acked : (acks replies : ℕ) → Fact
-  Unsent : (serial sent : ℕ) → Fact
-  Carries : (serial : ℕ) (wire : Wire) → Fact
-  GoesTo : (member : ℕ) → Fact
-  WentTo : (member : ℕ) → Fact
-  Waits : Fact
-  LeftIn : (number : ℕ) (step : Step) → Fact
-  CrashedIn : (number : ℕ) → Fact
-  Members : (count : ℕ) → Fact
-  Registers : Fact
-  AtMost : (most : ℕ) → Fact
-
--- ---- their texts
-
-abbrev pub fact_text : Fact → List ℕ
-fact_text (Began k) = concat (codes "instance " ∷ decimal k ∷ [])
-fact_text Idle = codes " idle"
-fact_text (InRound r phase) = concat (codes " round " ∷ decimal r ∷ codes " " ∷ phase_text phase ∷ [])
-fact_text (LedBy q) = concat (codes ", coordinator " ∷ decimal q ∷ [])
-fact_text (Holds v ts) = concat (codes ", estimate " ∷ estimate_text (Some (v, ts)) ∷ [])
-fact_text (Heard q v ts) = concat (codes ", heard " ∷ decimal q ∷ codes " " ∷ estimate_text (Some (v, ts)) ∷ [])
-fact_text (Acked acks replies) = concat (codes ", acks " ∷ decimal acks ∷ codes " of " ∷ decimal replies ∷ [])
-fact_text (Unsent k sent) = concat (codes "#" ∷ decimal k ∷ codes " was not sent: " ∷ decimal sent ∷ codes " envelopes were" ∷ [])
-fact_text (Carries k wire) =
-    concat (codes "#" ∷ decimal k ∷ codes " " ∷ wire_text (wire_map (λ _. tt) wire) (unwrap_or (value_of wire) []) ∷ [])
-fact_text (GoesTo q) = concat (codes " to " ∷ decimal q ∷ [])
-fact_text (WentTo q) = concat (codes " went to member " ∷ decimal q ∷ [])
-fact_text Waits = codes " is in its line"
-fact_text (LeftIn number step) = concat (codes ", left in step " ∷ decimal number ∷ codes " " ∷ step_text step ∷ [])
-fact_text (CrashedIn number) = concat (codes "in step " ∷ decimal number ∷ [])
-fact_text (Members n) = concat (codes "members are 1 to " ∷ decimal n ∷ [])
-fact_text Registers = codes "a register is 0 to 15"
-fact_text (AtMost most) = concat (decimal most ∷ codes " at most" ∷ [])
-
-abbrev pub texts_of : List Fact → List ℕ
-texts_of [] = []
-texts_of (fact ∷ facts) = fact_text fact ++ texts_of facts
+use Rattle.ct_show.specs.Facts.{Fact, facts_of, returns, takes, texts_of}
+use Rattle.ct_show.specs.Facts.Fact.{Acked, AtMost, Began, Carries, CrashedIn, GoesTo, Heard, Holds, Idle, InRound, LeftIn, Members}
+use Rattle.ct_show.specs.Facts.Fact.{Registers, Unsent, Waits, WentTo}
+use Rattle.ct_judging.specs.Refusing.{crash_of, limit_of}
 
 -- ---- what makes them true
 
@@ -84,6 +31,12 @@ Stands w p P = (c : Standing) × ((member_of w p).current ≡ Some c) × P c
 -- p got this wire
 abbrev pub HasGot : Rehearsal → ℕ → Wire → Type 0
 HasGot w p wire = IsIn wire (member_of w p).got
+
+-- p got these estimates, each from the member before it, for the round; and one of each member of the group from which it got any
+pub record AreHeard (w : Rehearsal) (p round : ℕ) (estimates : List (ℕ × (Value × ℕ))) : Type 0 where
+  pub got : (q : ℕ) (v : Value) (ts : ℕ) → IsIn (q, (v, ts)) estimates → HasGot w p (Est (member_of w p).last round q v ts)
+  pub each : (q : ℕ) (v : Value) (ts : ℕ) → IsMember w.setting.members q → IsIn q everyone →
+      HasGot w p (Est (member_of w p).last round q v ts) → (e : Value × ℕ) × IsIn (q, e) estimates
 
 -- so many members are such
 pub record AreMany (P : ℕ → Type 0) (count : ℕ) : Type 0 where
@@ -101,43 +54,71 @@ HasReply w p instance round q = HasGot w p (Ack instance round q) ⊎ HasGot w p
 abbrev pub IsSent : Rehearsal → ℕ → (Envelope → Type 0) → Type 0
 IsSent w k P = (e : Envelope) × (at_serial (state_of w).sent k ≡ Some e) × P e
 
--- the step takes the envelope of the serial out of a line, or puts it back
-abbrev pub IsTaking : ℕ → Step → Type 0
-IsTaking k step = (q : ℕ) × ((step ≡ Receive q k) ⊎ (step ≡ Lose q k))
+-- of the first steps that of the number takes the envelope of the serial out of a line, and no later one does or puts it back
+pub record IsLeaving (steps : List Step) (k count number : ℕ) (step : Step) : Type 0 where
+  pub within : number ≤ count
+  pub there : at_serial steps number ≡ Some step
+  pub taken : takes step k ≡ true
+  pub last : (later : ℕ) (other : Step) → number < later → later ≤ count → at_serial steps later ≡ Some other →
+      (takes other k ≡ false) × (returns other k ≡ false)
 
-abbrev pub IsReturning : ℕ → Step → Type 0
-IsReturning k step = (q : ℕ) × (step ≡ Repeat q k)
+-- it is this step; or none is such
+abbrev pub HasLeft : List Step → (k count : ℕ) → Option (ℕ × Step) → Type 0
+HasLeft steps k count None = (number : ℕ) (step : Step) → IsLeaving steps k count number step → ⊥
+HasLeft steps k count (Some t) = IsLeaving steps k count t.0 t.1
 
--- this is the step of the number, it takes the envelope out, and no later one does or puts it back
-pub record IsLeaving (w : Rehearsal) (k number : ℕ) (step : Step) : Type 0 where
-  pub there : at_serial w.steps number ≡ Some step
-  pub takes : IsTaking k step
-  pub last : (later : ℕ) (other : Step) → number < later → at_serial w.steps later ≡ Some other → IsTaking k other → ⊥
-  pub gone : (later : ℕ) (other : Step) → number < later → at_serial w.steps later ≡ Some other → IsReturning k other → ⊥
+-- p crashed in the step of this number; or never
+abbrev pub HasCrashed : List Step → ℕ → Option ℕ → Type 0
+HasCrashed steps p None = (number : ℕ) → at_serial steps number ≡ Some (Crash p) → ⊥
+HasCrashed steps p (Some number) = at_serial steps number ≡ Some (Crash p)
 
 -- it is true of member p, of the envelope of serial k, and of this refusal
 abbrev pub IsTrue : Rehearsal → (p k : ℕ) → Refusal → Fact → Type 0
 IsTrue w p k refusal (Began instance) = instance ≡ (member_of w p).last
 IsTrue w p k refusal Idle = (member_of w p).current ≡ None
-IsTrue w p k refusal (InRound r phase) = Stands w p (λ c. (r ≡ c.round) × (phase ≡ c.phase))
-IsTrue w p k refusal (LedBy q) = Stands w p (λ c. q ≡ coordinator w.setting.members c.round)
-IsTrue w p k refusal (Holds v ts) = Stands w p (λ c. (v ≡ c.estimate) × (ts ≡ c.ts))
-IsTrue w p k refusal (Heard q v ts) = Stands w p (λ c. HasGot w p (Est (member_of w p).last c.round q v ts))
+IsTrue w p k refusal (InRound r phase q) =
+    Stands w p (λ c. (r ≡ c.round) × (phase ≡ c.phase) × (q ≡ coordinator w.setting.members c.round))
+IsTrue w p k refusal (Holds e) = Stands w p (λ c. e ≡ Some (c.estimate, c.ts))
+IsTrue w p k refusal (Heard estimates) = Stands w p (λ c. AreHeard w p c.round estimates)
 IsTrue w p k refusal (Acked acks replies) =
     Stands w p (λ c. AreMany (λ q. HasGot w p (Ack (member_of w p).last c.round q)) acks
     × AreMany (HasReply w p (member_of w p).last c.round) replies)
 IsTrue w p k refusal (Unsent serial sent) =
     (serial ≡ k) × (at_serial (state_of w).sent k ≡ None) × (sent ≡ length (state_of w).sent)
-IsTrue w p k refusal (Carries serial wire) = (serial ≡ k) × IsSent w k (λ e. wire ≡ e.wire)
+IsTrue w p k refusal (Carries serial wire v) =
+    (serial ≡ k) × IsSent w k (λ e. (wire ≡ wire_map (λ _. tt) e.wire) × (v ≡ unwrap_or (value_of e.wire) []))
 IsTrue w p k refusal (GoesTo q) = IsSent w k (λ e. q ≡ e.to)
 IsTrue w p k refusal (WentTo q) = IsSent w k (λ e. q ≡ e.to)
 IsTrue w p k refusal Waits = has_serial k (line_of w p) ≡ true
-IsTrue w p k refusal (LeftIn number step) = IsLeaving w k number step
-IsTrue w p k refusal (CrashedIn number) = at_serial w.steps number ≡ Some (Crash p)
+IsTrue w p k refusal (LeftIn taking) = HasLeft w.steps k (length w.steps) taking
+IsTrue w p k refusal (CrashedIn number) = HasCrashed w.steps p number
 IsTrue w p k refusal (Members n) = n ≡ w.setting.members
 IsTrue w p k refusal Registers = ⊤
-IsTrue w p k refusal (AtMost most) = (limit : Limit) × (refusal ≡ Full limit) × (most ≡ limit_of w limit)
+IsTrue w p k refusal (AtMost most) = (limit : Limit) × (refusal ≡ refusals.Full limit) × (most ≡ limit_of w limit)
 
 abbrev pub AreTrue : Rehearsal → (p k : ℕ) → Refusal → List Fact → Type 0
 AreTrue w p k refusal [] = ⊤
 AreTrue w p k refusal (fact ∷ facts) = IsTrue w p k refusal fact × AreTrue w p k refusal facts
+
+-- ---- what is told
+
+-- the serial that a step names, 0 where it names none
+abbrev pub serial_in : Step → ℕ
+serial_in (Receive p k) = k
+serial_in (Postpone p k) = k
+serial_in (Lose p k) = k
+serial_in (Repeat p k) = k
+serial_in step = 0
+
+-- of the line of a step: the members that there are; when its member crashed; which registers there are; the limit; or those of the step
+abbrev pub reasons_of : Rehearsal → Step → Refusal → List Fact
+reasons_of w step refusals.NoSuchMember = Members w.setting.members ∷ []
+reasons_of w step refusals.Crashed = CrashedIn (crash_of w.steps (actor step)) ∷ []
+reasons_of w step refusals.BadCommand = Registers ∷ []
+reasons_of w step (refusals.Full limit) = AtMost (limit_of w limit) ∷ []
+reasons_of w step refusal = facts_of w step refusal
+
+-- the text is that of these facts, and each is true
+pub record Tells (w : Rehearsal) (p k : ℕ) (refusal : Refusal) (facts : List Fact) (text : List ℕ) : Type 0 where
+  pub is : text ≡ texts_of facts
+  pub are : AreTrue w p k refusal facts

@@ -1,6 +1,5 @@
 pub mod Diagrams
 pub mod Expectations
-pub mod Behind
 pub mod Facts
 pub mod Fitting
 pub mod JsonSteps

@@ -7,20 +7,21 @@ ghost use Rattle.ct_model.specs.Actor.{actor};
 ghost use Rattle.ct_model.specs.Cause.{cause};
 ghost use Rattle.ct_model.specs.Rehearsal.{Rehearsal};
 ghost use Rattle.ct_model.specs.declared.step.Step.{Step};
-ghost use Rattle.ct_show.specs.Facts.{facts_text, member_facts};
+ghost use Rattle.ct_show.specs.Facts.{facts_of, facts_text, member_facts, standing};
 ghost use Rattle.ct_judging.specs.Refusing.{reason_text};
-ghost use Rattle.ct_laws.specs.Behind.{NameActor, NameReason, TellsFacts, TellsMember};
+ghost use Rattle.ct_laws.specs.Facts.{Tells, reasons_of, serial_in};
 
 /// The text that is told of a refused step, in the lines of steps and by the judge of schedules, is that of a list of facts which are true
 /// of the state before it: where its member stands, in words of its state and of the wires that it got; the envelope that it names, in
-/// words of those that were sent and of the steps; or when its member crashed, and what would be right. Which facts these are `NameReason`
-/// says by the refusal: of a member its round, its estimate, one of each member of which it has an estimate of that round, and how many
-/// replied.
-#[tactic(auto, using(crate::proofs::MemberFacts::tells_member, crate::proofs::Reasons::tells_line, crate::proofs::Reasons::tells_step))]
+/// words of those that were sent and of the steps; or when its member crashed, and what would be right. Which facts these are `facts_of`
+/// and `reasons_of` say by the refusal: of a member its round, its estimate, one of each member of which it has an estimate of that round,
+/// and how many replied.
 pub fn law_facts()
-    ensures member { (w : Rehearsal) (p : ℕ) → IsMember w.setting.members p → TellsMember w p (member_facts w p) }
+    ensures member { (w : Rehearsal) (p k : ℕ) (refusal : Refusal) → IsMember w.setting.members p →
+        Tells w p k refusal (standing w p) (member_facts w p) }
     ensures steps { (w : Rehearsal) (step : Step) (refusal : Refusal) → cause w step ≡ Some refusal →
-        IsMember w.setting.members (actor step) → TellsFacts w step refusal (NameActor w step refusal) (facts_text w step refusal) }
+        IsMember w.setting.members (actor step) →
+        Tells w (actor step) (serial_in step) refusal (facts_of w step refusal) (facts_text w step refusal) }
     ensures lines { (w : Rehearsal) (step : Step) (refusal : Refusal) → cause w step ≡ Some refusal →
-        TellsFacts w step refusal (NameReason w step refusal) (reason_text w step refusal) }
+        Tells w (actor step) (serial_in step) refusal (reasons_of w step refusal) (reason_text w step refusal) }
 {}

@@ -21,8 +21,9 @@ use Rattle.ct_text.specs.Lists.{first_in, list_text}
 use Rattle.ct_world.specs.Driving.{next_local}
 use Rattle.ct_world.specs.Standing.{estimate_by, acked_by, replied_by}
 use Rattle.ct_world.specs.World.{member_of, if_member}
-use Rattle.ct_text.specs.Standing.{instance_of}
-use Rattle.ct_show.specs.Facts.{first_heard, place_in}
+use Rattle.ct_text.specs.Standing.{coordinator_of, instance_of}
+use Rattle.ct_show.specs.Facts.Fact.{InRound}
+use Rattle.ct_show.specs.Facts.{fact_text, first_heard, heard_text}
 use Rattle.ct_text.specs.Shapes.{estimate_text}
 use Rattle.ct_show.specs.Wires.{serial_text}
 
@@ -31,7 +32,7 @@ use Rattle.ct_show.specs.Wires.{serial_text}
 -- idle, or its round, its phase and its coordinator
 abbrev pub progress_text : Rehearsal → ℕ → Option (ℕ × Phase) → List ℕ
 progress_text w p None = codes " idle"
-progress_text w p (Some r) = place_in w p r
+progress_text w p (Some r) = fact_text (InRound r.0 r.1 (coordinator_of w p))
 
 -- whether it is up, and its instance
 unfoldable pub standing_line : Rehearsal → ℕ → List ℕ
@@ -54,7 +55,7 @@ set_line word (Some set) = concat (word ∷ list_text 32 (first_in set MAX_MEMBE
 unfoldable pub votes_lines : Rehearsal → ℕ → List ℕ
 votes_lines w p =
     concat (estimate_line (if_member w p (estimate_by (member_of w p)))
-    ∷ first_heard (codes "  heard    ") (codes "\n") w p w.setting.members
+    ∷ flat_map (heard_text (codes "  heard    ") (codes "\n")) (first_heard w p w.setting.members)
     ∷ set_line (codes "  acked    ") (if_member w p (acked_by (member_of w p)))
     ∷ set_line (codes "  replied  ") (if_member w p (replied_by (member_of w p)))
     ∷ [])

@@ -1,15 +1,16 @@
 //! The line of a refused step, with the facts behind the refusal. The world is the one before the step.
 
-ghost use Rattle.std.specs.Prelude.{◌≡◌, length, Some, OnOk, option_map};
+ghost use Rattle.std.specs.Prelude.{◌≡◌, flat_map, length, Some, OnOk, option_map};
+ghost use Rattle.ct_model.specs.Rehearsal.{state_of};
 ghost use Rattle.ct_text.specs.Adds.{Adds};
-ghost use Rattle.ct_show.specs.Facts.{heard_text, first_heard, phase_in};
-ghost use Rattle.ct_show.specs.Facts.{led_text, place_in, votes_text, part_text, member_facts};
-ghost use Rattle.ct_show.specs.Facts.{takes, returns, taking_or, last_taking, left_in, left_text, leaving_text};
-ghost use Rattle.ct_show.specs.Facts.{place_text, missing_text, letter_facts, serial_facts, facts_text, refused_text};
+ghost use Rattle.ct_text.specs.Standing.{coordinator_of};
+ghost use Rattle.ct_show.specs.Facts.Fact.{InRound, Unsent};
+ghost use Rattle.ct_show.specs.Facts.{fact_text, facts_text, first_heard, heard_of, heard_text, last_taking, left_in};
+ghost use Rattle.ct_show.specs.Facts.{left_text, letter_facts, member_facts, part, place, refused_text, returns, takes, taking_or, texts_of};
 
 use crate::details::{push_acks, push_coordinator};
 use crate::lines::push_head;
-use crate::wires::push_serial;
+use crate::wires::push_wire;
 use ct_model::{Phase, Step};
 use ct_names::{Member, Message, Refusal, Round, Serial};
 use ct_text::{coordinator_of, instance_of, phase_name, push_estimate, push_estimate_of};
@@ -34,6 +35,7 @@ pub fn push_refused(
 }
 
 /// Appends the facts behind the refusal of a step: the envelope that the step names, or where its member stands.
+#[tactic(auto, unfolding(crate::specs::Facts::facts_text, crate::specs::Facts::member_facts))]
 pub fn push_facts(
     text: &mut String,
     world: &World,
@@ -43,27 +45,17 @@ pub fn push_facts(
     ensures { OnOk result (Adds text.old text.new (facts_text world.now.rehearsal step refusal)) }
 {
     match step {
-        Step::Receive(_, serial) => push_serial_facts(text, world, serial, refusal),
-        Step::Postpone(_, serial) => push_serial_facts(text, world, serial, refusal),
-        Step::Lose(_, serial) => push_serial_facts(text, world, serial, refusal),
-        Step::Repeat(_, serial) => push_serial_facts(text, world, serial, refusal),
+        Step::Receive(_, serial)
+        | Step::Postpone(_, serial)
+        | Step::Lose(_, serial)
+        | Step::Repeat(_, serial) => {
+            push_letter_facts(text, world, serial, world.letter(serial), refusal)
+        }
         step => push_member_facts(text, world, step.member()),
     }
 }
 
-// The envelope of the serial, and where it is.
-#[tactic(auto, unfolding(crate::specs::Facts::serial_facts))]
-fn push_serial_facts(
-    text: &mut String,
-    world: &World,
-    serial: Serial,
-    refusal: Refusal,
-) -> Result<(), AllocError>
-    ensures { OnOk result (Adds text.old text.new (serial_facts world.now.rehearsal serial refusal)) }
-{
-    push_letter_facts(text, world, serial, world.letter(serial), refusal)
-}
-
+// The envelope of the serial, where it is, and when it left its line.
 fn push_letter_facts(
     text: &mut String,
     world: &World,
@@ -71,50 +63,44 @@ fn push_letter_facts(
     letter: Option<Letter>,
     refusal: Refusal,
 ) -> Result<(), AllocError>
-    ensures { OnOk result (Adds text.old text.new (letter_facts world.now.rehearsal serial letter refusal)) }
+    ensures { OnOk result (Adds text.old text.new (texts_of (letter_facts world.now.rehearsal serial letter refusal))) }
 {
     match letter {
         None => push_missing(text, world, serial),
         Some(letter) => {
-            push_serial(text, world, serial)?;
-            push_place(text, letter.to, refusal)?;
-            push_leaving(text, world, serial, refusal)
+            write!(text, "#{serial} ")?;
+            push_wire(text, &letter.wire, world.value(serial).unwrap_or(&[]))?;
+            push_place(text, world, serial, letter.to, refusal)
         }
     }
 }
 
 // How many envelopes were sent, where there is none of the serial.
-#[tactic(auto, unfolding(crate::specs::Facts::missing_text))]
 fn push_missing(text: &mut String, world: &World, serial: Serial) -> Result<(), AllocError>
-    ensures { OnOk result (Adds text.old text.new (missing_text world.now.rehearsal serial)) }
+    ensures { OnOk result (Adds text.old text.new (fact_text (Unsent serial (length (state_of world.now.rehearsal).sent)))) }
 {
     let sent = world.sent();
     write!(text, "#{serial} was not sent: {sent} envelopes were")
 }
 
-// Where an envelope to the member is, as far as the refusal tells.
-fn push_place(text: &mut String, to: Member, refusal: Refusal) -> Result<(), AllocError>
-    ensures { OnOk result (Adds text.old text.new (place_text to refusal)) }
+// Where an envelope to the member is, as far as the refusal tells, and when it left its line.
+fn push_place(
+    text: &mut String,
+    world: &World,
+    serial: Serial,
+    to: Member,
+    refusal: Refusal,
+) -> Result<(), AllocError>
+    ensures { OnOk result (Adds text.old text.new (texts_of (place world.now.rehearsal serial to refusal))) }
 {
     match refusal {
         Refusal::NotSent => write!(text, " went to member {to}"),
         Refusal::StillWaiting => text.push_str(" is in its line"),
+        Refusal::NotWaiting => {
+            write!(text, " to {to}")?;
+            push_left(text, last_taking(world.record(), serial))
+        }
         _ => write!(text, " to {to}"),
-    }
-}
-
-// When the envelope left its line, where the refusal is that it doesn't wait.
-fn push_leaving(
-    text: &mut String,
-    world: &World,
-    serial: Serial,
-    refusal: Refusal,
-) -> Result<(), AllocError>
-    ensures { OnOk result (Adds text.old text.new (leaving_text world.now.rehearsal serial refusal)) }
-{
-    match refusal {
-        Refusal::NotWaiting => push_left(text, last_taking(world.record(), serial)),
-        _ => Ok(()),
     }
 }
 
@@ -191,25 +177,28 @@ pub fn push_member_facts(text: &mut String, world: &World, member: Member) -> Re
     push_part(text, world, member, world.round(member))
 }
 
+#[tactic(auto, unfolding(ct_text::specs::Standing::estimate_of, crate::specs::Details::acks_text))]
 fn push_part(
     text: &mut String,
     world: &World,
     member: Member,
     round: Option<(Round, Phase)>,
 ) -> Result<(), AllocError>
-    ensures { OnOk result (Adds text.old text.new (part_text world.now.rehearsal member round)) }
+    ensures { OnOk result (Adds text.old text.new (texts_of (part world.now.rehearsal member round))) }
 {
     match round {
         None => text.push_str(" idle"),
         Some((round, phase)) => {
             push_place_in(text, world, member, round, phase)?;
-            push_votes(text, world, member)
+            text.push_str(", estimate ")?;
+            push_estimate_of(text, world, member)?;
+            push_all_heard(text, ", heard ", "", world, member)?;
+            push_acks(text, ",", world, member)
         }
     }
 }
 
-// Where the member is in its open instance.
-#[tactic(auto, unfolding(crate::specs::Facts::place_in))]
+// Where the member is in its open instance. A round before the first one has no coordinator.
 pub(crate) fn push_place_in(
     text: &mut String,
     world: &World,
@@ -217,39 +206,15 @@ pub(crate) fn push_place_in(
     round: Round,
     phase: Phase,
 ) -> Result<(), AllocError>
-    ensures { OnOk result (Adds text.old text.new (place_in world.now.rehearsal member (round, phase))) }
+    ensures { OnOk result (Adds text.old text.new (fact_text (InRound round phase (coordinator_of world.now.rehearsal member)))) }
 {
-    push_phase(text, round, phase)?;
-    push_led(text, round, coordinator_of(world, member))
-}
-
-// The coordinator of the round, which has none before the first one.
-fn push_led(text: &mut String, round: Round, coordinator: Member) -> Result<(), AllocError>
-    ensures { OnOk result (Adds text.old text.new (led_text round coordinator)) }
-{
+    let name = phase_name(phase);
+    write!(text, " round {round} {name}")?;
     if round == 0 {
         Ok(())
     } else {
-        push_coordinator(text, coordinator)
+        push_coordinator(text, coordinator_of(world, member))
     }
-}
-
-#[tactic(auto, unfolding(crate::specs::Facts::phase_in))]
-fn push_phase(text: &mut String, round: Round, phase: Phase) -> Result<(), AllocError>
-    ensures { OnOk result (Adds text.old text.new (phase_in (round, phase))) }
-{
-    let name = phase_name(phase);
-    write!(text, " round {round} {name}")
-}
-
-#[tactic(auto, unfolding(crate::specs::Facts::votes_text))]
-fn push_votes(text: &mut String, world: &World, member: Member) -> Result<(), AllocError>
-    ensures { OnOk result (Adds text.old text.new (votes_text world.now.rehearsal member)) }
-{
-    text.push_str(", estimate ")?;
-    push_estimate_of(text, world, member)?;
-    push_all_heard(text, ", heard ", "", world, member)?;
-    push_acks(text, ",", world, member)
 }
 
 // The estimates that the member heard for its round, each between these texts.
@@ -261,7 +226,7 @@ pub(crate) fn push_all_heard(
     member: Member,
 ) -> Result<(), AllocError>
     ensures { OnOk result (Adds text.old text.new
-        (first_heard before.now after.now world.now.rehearsal member world.now.rehearsal.setting.members)) }
+        (flat_map (heard_text before.now after.now) (first_heard world.now.rehearsal member world.now.rehearsal.setting.members))) }
 {
     let n = world.group().n();
     for i in 0..n {
@@ -278,7 +243,8 @@ fn push_heard(
     from: Member,
     heard: Option<(&[Message], Round)>,
 ) -> Result<(), AllocError>
-    ensures { OnOk result (Adds text.old text.new (heard_text before.now after.now from (option_map (λ e. (e.0.now, e.1)) heard.entry))) }
+    ensures { OnOk result (Adds text.old text.new
+        (flat_map (heard_text before.now after.now) (heard_of from (option_map (λ e. (e.0.now, e.1)) heard.entry)))) }
 {
     match heard {
         None => Ok(()),

@@ -20,7 +20,7 @@ pub fn push_round(text: &mut String, instance: Instance, round: Round) -> Result
 
 // The wire with this value.
 #[tactic(auto, unfolding(crate::specs::Wires::wire_text, crate::specs::Wires::round_text))]
-fn push_wire(text: &mut String, wire: &Wire, value: &[Message]) -> Result<(), AllocError>
+pub(crate) fn push_wire(text: &mut String, wire: &Wire, value: &[Message]) -> Result<(), AllocError>
     ensures { OnOk result (Adds text.old text.new (wire_text wire.now value.now)) }
 {
     match *wire {

@@ -42,12 +42,13 @@ use Rattle.ct_json.specs.JsonSteps.{facts_fields, head_fields, held, instance_fi
 use Rattle.ct_json.specs.JsonSteps.{member_facts, message_fields, message_in, missing_fields, outcome_fields, proposal_fields}
 use Rattle.ct_json.specs.JsonSteps.{refusal_fields, refused_value, round_fields, valued_fields, value_in, refused_json, step_json}
 use Rattle.ct_json.specs.Fields.{line_text, lines_text}
+use Rattle.ct_laws.specs.Facts.{HasLeft}
 use Rattle.ct_laws.specs.Fitting.{IsFitting}
 use Rattle.ct_laws.specs.JsonSteps.{asked_values, refused_values, shown_values, step_value, steps_values}
 use Rattle.ct_laws.specs.JsonValues.{AreRead}
 use Rattle.ct_laws.specs.Sessions.{lines_heard}
 use Rattle.ct_laws.proofs.Finding.{Each, each_both, each_from}
-use Rattle.ct_laws.proofs.LetterFacts.{is_last}
+use Rattle.ct_laws.proofs.Reasons.{has_left}
 use Rattle.ct_laws.proofs.Values.Feedless.{lines_read}
 use Rattle.ct_laws.proofs.Values.Bounded.{HasNext, fit_at, has_next}
 use Rattle.ct_laws.proofs.Values.Mild.{AreMild, IsMild, both_mild, mild_by}
@@ -221,8 +222,9 @@ module _ (w : Rehearsal) (h : IsSized w) where
   left_mild : (k s : ℕ) (o : Option (ℕ × Step)) → last_taking w.steps s (length w.steps) ≡ o → AreMild (suc (suc (suc k))) (left_fields o)
   left_mild k s None is = tt
   left_mild k s (Some t) is =
-      let last = is_last w.steps s (length w.steps) t is in
-      ((omega (arith, last.to, h.law.within.few_steps), (step_mild k t.1 (serial_fits w.steps t.0 t.1 h.fitting.fit last.there), tt)), tt)
+      let last = subst (HasLeft w.steps s (length w.steps)) is (has_left w.steps s (length w.steps)) in
+      let step = step_mild k t.1 (serial_fits w.steps t.0 t.1 h.fitting.fit last.there) in
+      ((omega (arith, last.within, h.law.within.few_steps), (step, tt)), tt)
 
   leaving_mild : (k s : ℕ) (refusal : Refusal) → AreMild (suc (suc (suc k))) (leaving_fields w s refusal)
   leaving_mild k s NotWaiting = left_mild k s (last_taking w.steps s (length w.steps)) refl
