@@ -1,6 +1,6 @@
 -- What is said of the bytes that were read holds of the input.
 use Rattle.std.proofs.Common.{◌≡◌, ℕ, List, Option, Some, None, Result, Ok, Err, sym, ap, subst, ◌∙◌, arith}
-use Rattle.std.specs.Prelude.{IfSome, IfOk, IfErr, IsOkAnd}
+use Rattle.std.specs.Prelude.{IfSome, IsOkAnd}
 use Rattle.ct_model.specs.Rehearsal.{Rehearsal}
 use Rattle.ct_streams.specs.Streams.{read_part}
 use Rattle.ct_records.specs.declared.program_fault.ProgramFault.{ProgramFault}
@@ -21,8 +21,7 @@ script_read bytes input e = ap script e ∙ script_part 67108865 input (omega ar
 -- the report of a world whose record was read
 pub report_is : (w : Rehearsal) (text bytes : List ℕ) → IsBegun w → IsOutcome w → text ≡ report_text w → IsWholeOf bytes w →
     IsReportOf bytes text
-report_is w text bytes h outcome is whole =
-    rw (whole_says w bytes h.fit whole) (record { allowed = h.allowed; outcome = outcome }, is)
+report_is w text bytes h outcome is whole = rw (whole_says w bytes h.fit whole) (record { allowed = h.allowed; outcome = outcome }, is)
 
 pub report_read : (left new : Option (List ℕ)) (w : Rehearsal) (text : List ℕ) → IsReadOf left new w →
     ((bytes : List ℕ) → IsWholeOf bytes w → IsReportOf bytes text) → IfSome left (λ input. IsReportOf input text)
@@ -58,15 +57,6 @@ told None text out P h e holds = tt
 told (Some input) text out P h e holds =
     ok_weaker (script input) (λ w. IsReplayed w × (text ≡ report_text w)) (λ w. IsReplayed w × P (report_text w))
     (λ w both. (both.0, subst P (e ∙ both.1) holds)) h
-
--- the same of what a result holds
-pub if_ok : {T E : Type 0} (r : Result T E) (P Q : T → Type 0) → ((x : T) → P x → Q x) → IfOk r P → IfOk r Q
-if_ok (Ok x) P Q f h = f x h
-if_ok (Err e) P Q f h = tt
-
-pub if_err : {T E : Type 0} (r : Result T E) (P Q : E → Type 0) → ((e : E) → P e → Q e) → IfErr r P → IfErr r Q
-if_err (Ok x) P Q f h = tt
-if_err (Err e) P Q f h = f e h
 
 -- a fault of memory says nothing of the input
 pub memory_in : (left : Option (List ℕ)) (fault : ProgramFault) → fault ≡ Memory → IfSome left (IsFaultIn fault)

@@ -14,7 +14,7 @@ use Rattle.ct_records.specs.Fits.{AllFit}
 use Rattle.ct_records.specs.Lexemes.{lexemes, number_lexeme, steps_lexemes, Begins, IsPlain}
 use Rattle.ct_records.specs.Reading.{IsAscii, IsWhite, ReadsKey, ReadsMark, ReadsNumber}
 use Rattle.ct_records.proofs.Lexemes.{closes, commas, object_ends, opens, opens_object}
-use Rattle.ct_records.proofs.Fronts.{lexed_then, mark_begins, split_then, white_first}
+use Rattle.ct_records.proofs.Fronts.{lexed_then, mark_begins, split_then, white_first, around}
 use Rattle.ct_records.proofs.Utf8.{ascii_valid}
 use Rattle.ct_records.specs.Script.{max_len, of_value, script}
 use Rattle.ct_records.specs.Values.{num}
@@ -45,9 +45,6 @@ found_none bytes numbers none = record {
   lexed = λ next. refl;
 }
 
-member_split : (key n mark next : List ℕ) → (key ++ (n ++ mark)) ++ next ≡ key ++ (n ++ (mark ++ next))
-member_split key n mark next = simp append_assoc
-
 -- one more number, with a comma behind it
 pub found_more : (bytes rest key value after next : List ℕ) (n : ℕ) (old new : Numbers) → IsFound bytes old rest → ReadsKey rest key value →
     ReadsNumber value n after → ReadsMark after 44 next → n < 2 ^ 64 → AddsNumber key n old new → IsFound bytes new next
@@ -55,7 +52,7 @@ found_more bytes rest key value after next n old new h i j k few adds =
     let m = i.text ++ (j.text ++ k.text) in
     let plain : IsPlain key = (adds None).0 in
     let begins : rest ≡ m ++ next =
-    i.split ∙ ap (λ t. i.text ++ t) (j.split ∙ ap (λ t. j.text ++ t) k.split) ∙ sym (member_split i.text j.text k.text next) in
+    i.split ∙ ap (λ t. i.text ++ t) (j.split ∙ ap (λ t. j.text ++ t) k.split) ∙ sym (around i.text j.text k.text next) in
     let value_lexed : (x : List ℕ) → lexemes (j.text ++ (k.text ++ x)) ≡ number_lexeme n ∷ lexemes (k.text ++ x) =
     λ x. j.lexed (k.text ++ x) ((k.begins x).ends refl) in
     record {
@@ -65,14 +62,14 @@ found_more bytes rest key value after next n old new h i j k few adds =
           let end = k.text ++ x in
           let takes : Takes (m ++ x) (members_with old None) (members_with new None) end =
           takes_number key n (m ++ x) (j.text ++ end) end _ _
-          (λ plain. ap lexemes (member_split i.text j.text k.text x) ∙ i.lexed plain (j.text ++ end)) (λ ended. j.lexed end ended) few
+          (λ plain. ap lexemes (around i.text j.text k.text x) ∙ i.lexed plain (j.text ++ end)) (λ ended. j.lexed end ended) few
           (adds None) in
           subst (λ t. SoFar t (members_with new None) x) (sym (append_assoc h.text m x))
           (so_far_more (h.text ++ (m ++ x)) (m ++ x) end x _ _ (h.so_far (m ++ x)) takes (k.begins x));
       before = λ l. h.before (token (string key) ∷ colon ∷ number_lexeme n ∷ comma ∷ l);
       lexed = λ x.
           lexed_then h.text m x _ (h.lexed (m ++ x)
-          ∙ ap h.before (ap lexemes (member_split i.text j.text k.text x) ∙ i.lexed plain (j.text ++ (k.text ++ x))
+          ∙ ap h.before (ap lexemes (around i.text j.text k.text x) ∙ i.lexed plain (j.text ++ (k.text ++ x))
           ∙ ap (λ l. token (string key) ∷ colon ∷ l) (value_lexed x
           ∙ ap (λ l. number_lexeme n ∷ l) (commas (k.text ++ x) x (k.begins x)))));
     }

@@ -20,11 +20,12 @@ use Rattle.ct_records.proofs.Utf8.{ascii_valid, decimal_valid, valid_then, white
 pub split_then : (bytes s mid t rest : List ℕ) → bytes ≡ s ++ mid → mid ≡ t ++ rest → bytes ≡ (s ++ t) ++ rest
 split_then bytes s mid t rest h k = h ∙ ap (λ x. s ++ x) k ∙ sym (append_assoc s t rest)
 
+-- three texts and what follows them
+pub around : (a b c next : List ℕ) → (a ++ (b ++ c)) ++ next ≡ a ++ (b ++ (c ++ next))
+around a b c next = simp append_assoc
+
 pub lexed_then : (s t next : List ℕ) (l : List Lexeme) → lexemes (s ++ (t ++ next)) ≡ l → lexemes ((s ++ t) ++ next) ≡ l
 lexed_then s t next l h = ap lexemes (append_assoc s t next) ∙ h
-
-pub rest_shorter : (bytes text rest : List ℕ) → bytes ≡ text ++ rest → length rest ≤ length bytes
-rest_shorter bytes text rest is = omega (arith, ap length is, length-append text rest)
 
 -- what was taken from the front, and what is left
 pub first_is : (bytes text rest : List ℕ) → bytes ≡ text ++ rest → take (length bytes - length rest) bytes ≡ text
@@ -35,8 +36,7 @@ first_is bytes text rest is =
 -- what is left of the bytes, where as many were taken from their front as were added to another text
 pub left_is : (a b xs ys : List ℕ) → a ++ xs ≡ b ++ ys → length ys ≤ length xs → ys ≡ drop (length xs - length ys) xs
 left_is a b xs ys same le =
-    let lengths : length a + length xs ≡ length b + length ys =
-    sym (length-append a xs) ∙ ap length same ∙ length-append b ys in
+    let lengths : length a + length xs ≡ length b + length ys = sym (length-append a xs) ∙ ap length same ∙ length-append b ys in
     let count : length b ≡ length a + (length xs - length ys) = omega (arith, lengths, le) in
     sym (drop-append-add b ys 0) ∙ ap (drop (length b + 0)) (sym same)
     ∙ ap (λ n. drop n (a ++ xs)) (omega (arith, count)) ∙ drop-append-add a xs (length xs - length ys)
@@ -90,13 +90,6 @@ white_ends (x ∷ xs) next h e = (space_skipped (x ∷ (xs ++ next)) (xs ++ next
 pub white_none : (bytes : List ℕ) → IsBehindWhite bytes bytes
 white_none bytes = record { white = []; split = refl; is = All-nil (λ b. is_space b ≡ true) }
 
-pub white_one : (bytes rest : List ℕ) (x : ℕ) → bytes ≡ x ∷ rest → is_space x ≡ true → IsBehindWhite bytes rest
-white_one bytes rest x is space = record {
-  white = x ∷ [];
-  split = is;
-  is = All-cons (λ b. is_space b ≡ true) x [] space (All-nil (λ b. is_space b ≡ true));
-}
-
 pub white_nothing : IsWhite []
 white_nothing = All-nil (λ b. is_space b ≡ true)
 
@@ -112,8 +105,7 @@ pub white_at : (bytes : List ℕ) (i : ℕ) → IsWhite (take i bytes) → IsBeh
 white_at bytes i h = record { white = take i bytes; split = sym (take-append-drop i bytes); is = h }
 
 pub white_all : (bytes : List ℕ) (i : ℕ) → length bytes ≤ i → IsWhite (take i bytes) → IsBehindWhite bytes []
-white_all bytes i long h =
-    record { white = bytes; split = sym (append-nil bytes); is = subst IsWhite (take_all i bytes long) h }
+white_all bytes i long h = record { white = bytes; split = sym (append-nil bytes); is = subst IsWhite (take_all i bytes long) h }
 
 pub white_reads : (bytes rest : List ℕ) → IsBehindWhite bytes rest → Reads bytes (λ after. after) 0 rest
 white_reads bytes rest h = record {
@@ -153,38 +145,24 @@ mark_first bytes rest byte is = mark_behind bytes bytes rest byte (white_none by
 pub mark_begins : (bytes rest : List ℕ) (byte : ℕ) → ReadsMark bytes byte rest → Begins bytes byte rest
 mark_begins bytes rest byte h = subst (λ t. Begins t byte rest) (sym h.split) (h.begins rest)
 
-abbrev pub mark_comma : (bytes rest : List ℕ) → ReadsMark bytes 44 rest → Reads bytes (λ after. comma ∷ after) 1 rest
-mark_comma bytes rest h = record {
+-- the lexeme that a mark is
+abbrev mark_reads : (byte : ℕ) (mark : Lexeme) → byte < 128 →
+    ((bytes rest : List ℕ) → Begins bytes byte rest → lexemes bytes ≡ mark ∷ lexemes rest) → (bytes rest : List ℕ) →
+    ReadsMark bytes byte rest → Reads bytes (λ after. mark ∷ after) 1 rest
+mark_reads byte mark small first bytes rest h = record {
   text = h.text;
   split = h.split;
-  says = record {
-    lexed = λ next. commas (h.text ++ next) next (h.begins next);
-    valid = h.valid (omega arith);
-    long = omega (arith, h.long);
-  };
+  says = record { lexed = λ next. first (h.text ++ next) next (h.begins next); valid = h.valid small; long = omega (arith, h.long) };
 }
+
+abbrev pub mark_comma : (bytes rest : List ℕ) → ReadsMark bytes 44 rest → Reads bytes (λ after. comma ∷ after) 1 rest
+mark_comma = mark_reads 44 comma (omega arith) commas
 
 abbrev pub mark_opens : (bytes rest : List ℕ) → ReadsMark bytes 91 rest → Reads bytes (λ after. token begin_array ∷ after) 1 rest
-mark_opens bytes rest h = record {
-  text = h.text;
-  split = h.split;
-  says = record {
-    lexed = λ next. opens (h.text ++ next) next (h.begins next);
-    valid = h.valid (omega arith);
-    long = omega (arith, h.long);
-  };
-}
+mark_opens = mark_reads 91 (token begin_array) (omega arith) opens
 
 abbrev pub mark_closes : (bytes rest : List ℕ) → ReadsMark bytes 93 rest → Reads bytes (λ after. token end_array ∷ after) 1 rest
-mark_closes bytes rest h = record {
-  text = h.text;
-  split = h.split;
-  says = record {
-    lexed = λ next. closes (h.text ++ next) next (h.begins next);
-    valid = h.valid (omega arith);
-    long = omega (arith, h.long);
-  };
-}
+mark_closes = mark_reads 93 (token end_array) (omega arith) closes
 
 -- ---- a number
 
@@ -239,17 +217,14 @@ pair_reads a b c d e p n h i j k =
 quoted_ascii : (name : List ℕ) → IsAscii name → IsAscii (name ++ 34 ∷ [])
 quoted_ascii name h = All-append (λ b. b < 128) name (34 ∷ []) h (one_ascii 34 (omega arith))
 
-name_split : (mark name next : List ℕ) → (mark ++ (name ++ 34 ∷ [])) ++ next ≡ mark ++ (name ++ 34 ∷ next)
-name_split mark name next = simp append_assoc
-
 pub name_behind : (bytes mid name rest : List ℕ) → ReadsMark bytes 34 mid → mid ≡ name ++ 34 ∷ rest → ReadsName bytes name rest
 name_behind bytes mid name rest h is =
     let last = name ++ 34 ∷ [] in
     record {
       text = h.text ++ last;
-      split = h.split ∙ ap (λ t. h.text ++ t) is ∙ sym (name_split h.text name rest);
+      split = h.split ∙ ap (λ t. h.text ++ t) is ∙ sym (around h.text name (34 ∷ []) rest);
       lexed = λ plain next.
-          ap lexemes (name_split h.text name next)
+          ap lexemes (around h.text name (34 ∷ []) next)
           ∙ word_first name (h.text ++ (name ++ 34 ∷ next)) next (h.begins (name ++ 34 ∷ next)).text plain;
       valid = λ ascii. valid_then h.text last (h.valid (omega arith)) (ascii_valid last (quoted_ascii name ascii));
       long = omega (arith, length-append h.text last, length-append name (34 ∷ []), h.long);

@@ -1,10 +1,10 @@
 -- Lexemes, put together.
 use Rattle.std.proofs.Common.{◌≡◌, ℕ, ◌+◌, ◌*◌, ◌/◌, ◌%◌, ◌<◌, ◌^◌, Bool, true, false, List, [], ◌∷◌, ◌++◌, length, take, get_or}
 use Rattle.std.proofs.Common.{decimal, Option, Some, None, refl, sym, ap, ◌∙◌, arith, append_assoc, inl, inr}
-use Rattle.std.specs.Prelude.{◌⊎◌, ◌==◌, ◌||◌, IfSome, nat_lt}
+use Rattle.std.specs.Prelude.{◌⊎◌, ◌==◌, IfSome, nat_lt}
 use Rattle.std.proofs.lemmas.List.{take_more}
 use Rattle.std.proofs.lemmas.Fmt.{decimal_digit, decimal_step}
-use Rattle.std.proofs.lemmas.Bool.{lt-ltb, eqb-true, or_cases}
+use Rattle.std.proofs.lemmas.Bool.{lt-ltb, eqb-true}
 use Rattle.json.specs.Token.{begin_object, end_object, begin_array, end_array, string}
 use Rattle.json.specs.Lex.{Lexeme, token, comma, colon, string_token, lex, between, in_string}
 use Rattle.json.specs.Print.{escape, quoted}
@@ -14,6 +14,7 @@ use Rattle.json.proofs.Printed.Numbers.{lex-number}
 use Rattle.json.proofs.Printed.Strings.{content-escape, lex-escape}
 use Rattle.ct_model.specs.declared.step.Step.{Step}
 use Rattle.ct_records.specs.Lexemes.{lexemes, number_lexeme, step_lexemes, comma_if, steps_lexemes, Begins, IsPlain}
+use Rattle.std.proofs.lemmas.Bool.Decides.{nat_tests}
 
 -- ---- numbers
 
@@ -61,19 +62,7 @@ opens_object bytes rest h = h.text
 
 -- white space, one byte at a time
 are_spaces : (x : ℕ) → is_space x ≡ true → (x ≡ 32) ⊎ ((x ≡ 9) ⊎ ((x ≡ 10) ⊎ (x ≡ 13)))
-are_spaces x h = go (or_cases _ _ h)
-  where
-    first : ((x == 32) ≡ true) ⊎ ((x == 9) ≡ true) → (x ≡ 32) ⊎ ((x ≡ 9) ⊎ ((x ≡ 10) ⊎ (x ≡ 13)))
-    first (inl e) = inl (eqb-true x 32 e)
-    first (inr e) = inr (inl (eqb-true x 9 e))
-
-    more : (((x == 32) || (x == 9)) ≡ true) ⊎ ((x == 10) ≡ true) → (x ≡ 32) ⊎ ((x ≡ 9) ⊎ ((x ≡ 10) ⊎ (x ≡ 13)))
-    more (inl e) = first (or_cases _ _ e)
-    more (inr e) = inr (inr (inl (eqb-true x 10 e)))
-
-    go : ((((x == 32) || (x == 9)) || (x == 10)) ≡ true) ⊎ ((x == 13) ≡ true) → (x ≡ 32) ⊎ ((x ≡ 9) ⊎ ((x ≡ 10) ⊎ (x ≡ 13)))
-    go (inl e) = more (or_cases _ _ e)
-    go (inr e) = inr (inr (inr (eqb-true x 13 e)))
+are_spaces x h = grind (arith, nat_tests)
 
 pub space_skipped : (bytes rest : List ℕ) (x : ℕ) → is_space x ≡ true → bytes ≡ x ∷ rest →
     (lexemes bytes ≡ lexemes rest) × (ends_word bytes ≡ true)

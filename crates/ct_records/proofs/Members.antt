@@ -20,7 +20,7 @@ use Rattle.ct_names.specs.declared.limit.TheConstants.{MAX_BOUND}
 use Rattle.ct_model.specs.declared.step.Step.{Step}
 use Rattle.ct_model.specs.Rehearsal.{Rehearsal}
 use Rattle.ct_model.specs.StepText as steps
-use Rattle.ct_model.specs.StepText.{Rest, nothing, command, step_entry}
+use Rattle.ct_model.specs.StepText.{Rest, nothing, step_entry}
 use Rattle.ct_records.specs.Fits.{AllFit, IsStorable}
 use Rattle.ct_records.specs.Lexemes.{lexemes, number_lexeme, entry_lexemes, rest_lexemes, steps_lexemes, Begins, IsPlain}
 use Rattle.ct_records.proofs.Lexemes.{commas, opens_object}
@@ -37,14 +37,11 @@ entry_tokens : (name : List ℕ) (first : ℕ) (r : Rest) (after : List Lexeme) 
     punctuate p (entry_lexemes name first (rest_lexemes r (token end_array ∷ after)))
     ≡ json_tokens (outline (entry_data name first (rest_data r))) ++ punctuate after_value after
 unfolding punctuate
-entry_tokens name first nothing after fresh h = refl
-entry_tokens name first nothing after after_comma h = refl
-entry_tokens name first (steps.number x) after fresh h = refl
-entry_tokens name first (steps.number x) after after_comma h = refl
-entry_tokens name first (command c) after fresh h = refl
-entry_tokens name first (command c) after after_comma h = refl
 entry_tokens name first r after after_value h = absurd cc
 entry_tokens name first r after after_key h = absurd cc
+entry_tokens name first nothing after fresh h = refl
+entry_tokens name first nothing after after_comma h = refl
+entry_tokens name first _ after _ h = refl
 
 step_tokens : (s : Step) (rest : List Lexeme) (p : Place) → may_begin p ≡ true →
     punctuate p (entry_lexemes (step_entry s).name (step_entry s).first (rest_lexemes (step_entry s).rest (token end_array ∷ rest)))
@@ -77,10 +74,7 @@ steps_tokens (s ∷ ss) after =
 key_tokens : (key : List ℕ) (after : List Lexeme) (p : Place) → may_begin p ≡ true →
     punctuate p (token (string key) ∷ colon ∷ after) ≡ json.key key ∷ punctuate fresh after
 unfolding punctuate
-key_tokens key after fresh h = refl
-key_tokens key after after_comma h = refl
-key_tokens key after after_value h = absurd cc
-key_tokens key after after_key h = absurd cc
+key_tokens key after p h = grind arith
 
 number_tokens : (n : ℕ) (after : List Lexeme) →
     punctuate fresh (number_lexeme n ∷ after) ≡ json.number (decimal n) ∷ punctuate after_value after

@@ -22,25 +22,15 @@ pub record IsName (s : List ℕ) : Type 0 where
   pub ascii : are_ascii s ≡ true
   pub short : length s ≤ 8
 
--- the name, by its three facts
-abbrev IsNamed : List ℕ → Type 0
-IsNamed name = (quoted name ≡ 34 ∷ (name ++ 34 ∷ [])) × (are_ascii name ≡ true) × (length name ≤ 8)
-
-step_named : (s : Step) → IsNamed (step_entry s).name
-unfolding json_on_literals
-step_named (Submit p c) = (refl, refl, omega arith)
-step_named _ = (refl, refl, omega arith)
-
-command_named : (c : Command) → IsNamed (command_entry c).name
-unfolding json_on_literals
-command_named (Set register n) = (refl, refl, omega arith)
-command_named _ = (refl, refl, omega arith)
-
 pub step_name : (s : Step) → IsName (step_entry s).name
-step_name s = let h = step_named s in record { plain = h.0; ascii = h.1; short = h.2 }
+unfolding json_on_literals
+step_name (Submit p c) = record { plain = refl; ascii = refl; short = omega arith }
+step_name _ = record { plain = refl; ascii = refl; short = omega arith }
 
 pub command_name : (c : Command) → IsName (command_entry c).name
-command_name c = let h = command_named c in record { plain = h.0; ascii = h.1; short = h.2 }
+unfolding json_on_literals
+command_name (Set register n) = record { plain = refl; ascii = refl; short = omega arith }
+command_name _ = record { plain = refl; ascii = refl; short = omega arith }
 
 -- ---- a table of names
 
@@ -106,18 +96,16 @@ commanded_has name p c s e =
 
 -- the number that the rest is
 abbrev number_of : Rest → Option ℕ
-number_of nothing = None
 number_of (number x) = Some (amount x)
-number_of (command c) = None
+number_of _ = None
 
 -- a member and that number
 abbrev member_and_number : Step → ℕ × Option ℕ
 member_and_number s = ((step_entry s).first, number_of (step_entry s).rest)
 
 is_numbered : (n : ℕ) (r : Rest) → number_of r ≡ Some n → (x : Number) × (r ≡ number x) × (amount x ≡ n)
-is_numbered n nothing e = absurd cc
 is_numbered n (number x) e = (x, refl, cc e)
-is_numbered n (command c) e = absurd cc
+is_numbered n _ e = absurd cc
 
 pub numbered_has : (name : List ℕ) (p n : ℕ) (s : Step) → numbered_step name p n ≡ Some s →
     ((step_entry s).name ≡ name) × ((step_entry s).first ≡ p) × ((x : Number) × ((step_entry s).rest ≡ number x) × (amount x ≡ n))

@@ -56,18 +56,6 @@ goes_on a b x y m n h first head seen =
       counted = omega (arith, seen.counted, h.counted, ap length all, length-append (head ++ x) h.read);
     }
 
-pub advances_none : (a : Option (List ℕ)) (x : List ℕ) (n : ℕ) → Advances a a x x n n
-advances_none a x n = record { read = []; consumed = consumes_none a; text = sym (append-nil x); counted = omega arith }
-
-pub advances_once : (a b : Option (List ℕ)) (x y r : List ℕ) (m n : ℕ) → Consumes a b r → y ≡ x ++ r → n ≡ m + (length y - length x) →
-    Advances a b x y m n
-advances_once a b x y r m n h is counted = record {
-  read = r;
-  consumed = h;
-  text = is;
-  counted = omega (arith, counted, ap length is, length-append x r);
-}
-
 take_on : (xs ys : List ℕ) (n : ℕ) → take (length xs + n) (xs ++ ys) ≡ xs ++ take n ys
 take_on [] ys n = let none : 0 + n ≡ n = omega arith in ap (λ k. take k ys) none
 take_on (x ∷ xs) ys n =
@@ -93,20 +81,7 @@ advances_front a b before front tail read post k n count same long le few h = re
   counted = ap (λ i. count + i) few;
 }
 
-pub advances_more : (a b c : Option (List ℕ)) (x y z : List ℕ) (k m n : ℕ) → Advances a b x y k m → Advances b c y z m n →
-    Advances a c x z k n
-advances_more a b c x y z k m n h i = record {
-  read = h.read ++ i.read;
-  consumed = consumes_more a b c h.read i.read h.consumed i.consumed;
-  text = i.text ∙ ap (λ t. t ++ i.read) h.text ∙ append_assoc x h.read i.read;
-  counted = omega (arith, h.counted, i.counted, length-append h.read i.read);
-}
-
 -- ---- steps
-
-pub done_none : (has : List Step → Type 0) (a : Option (List ℕ)) (input : Input) → AreDone has has a a input input
-done_none has a input = λ ss text h is.
-    record { steps = ss; has = h; all = text; is = is; goes = goes_none a (text ++ input.bytes.items) input.count }
 
 -- one after the other
 pub done_then : (x y z : List Step → Type 0) (a b d : Option (List ℕ)) (i j k : Input) → AreDone x y a b i j → AreDone y z b d j k →

@@ -45,16 +45,7 @@ read_part start ss a d text last input count h steps fit seen counted is = recor
       (steps_same start.text.items text last h.head.before ss h.head.lexed h.valid steps fit);
 }
 
--- nothing was done
-pub read_none : (a d : Option (List ℕ)) (input : Input) → IsSeen a d input.bytes.items input.count → IsReadAs a d input
-read_none a d input seen = record {
-  text = input.bytes.items;
-  seen = seen;
-  same = record { lexed = λ next. refl; valid = λ next. refl; shorter = omega arith };
-}
-
 -- what was read first, of which some bytes were taken out
 pub seen_first : (a b : Option (List ℕ)) (x y text rest : List ℕ) (m n : ℕ) → x ≡ [] → m ≡ 0 → Advances a b x y m n →
     y ≡ text ++ rest → IsSeen a b (text ++ rest) n
-seen_first a b x y text rest m n none zero h is =
-    subst (λ t. IsSeen a b t n) is (goes_on a b x y m n h a [] (seen_none a x m none zero))
+seen_first a b x y text rest m n none zero h is = subst (λ t. IsSeen a b t n) is (goes_on a b x y m n h a [] (seen_none a x m none zero))

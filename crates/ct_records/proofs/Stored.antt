@@ -21,7 +21,7 @@ use Rattle.ct_names.specs.declared.command.Command.{Command}
 use Rattle.ct_model.specs.declared.step.Step.{Step}
 use Rattle.ct_model.specs.Rehearsal.{Rehearsal}
 use Rattle.ct_model.specs.StepText as steps
-use Rattle.ct_model.specs.StepText.{Number, byte, serial, value, amount, largest, Rest, nothing, command, command_entry, step_entry}
+use Rattle.ct_model.specs.StepText.{Number, byte, value, amount, Rest, nothing, command, command_entry, step_entry}
 use Rattle.ct_model.specs.StepText.{entry_text, command_text, rest_texts, step_text}
 use Rattle.ct_records.specs.Fits.{NumberFits, CommandFits, RestFits, StepFits, AllFit, IsStorable}
 use Rattle.ct_records.specs.Text.{steps_text}
@@ -114,9 +114,8 @@ entry_stored name first items rest deep wide is few h =
 -- ---- those of a record
 
 pub amount_fits : (x : Number) → NumberFits x → amount x ≤ 18446744073709551615
-amount_fits (byte n) h = omega arith
-amount_fits (serial n) h = omega arith
 amount_fits (value n) h = h
+amount_fits _ h = omega arith
 
 command_stored : (c : Command) → CommandFits c → IsStored (command_data c) (command_text c) 1 37
 unfolding command_text

@@ -13,7 +13,7 @@ use Rattle.ct_model.specs.StepText.{Rest, nothing, number, command, amount, comm
 use Rattle.ct_records.specs.Lexemes.{lexemes, command_lexemes, step_lexemes, steps_lexemes, comma_if}
 use Rattle.ct_records.specs.Reading.{IsValid, Says, Reads, ReadsNumber, ReadsEntry, ReadsTail, ReadsStep, next_text}
 use Rattle.ct_records.proofs.Lexemes.{opens, steps_joined}
-use Rattle.ct_records.proofs.Fronts.{says_none, says_then, mark_begins, mark_comma, mark_first, left_is, number_plain, name_behind}
+use Rattle.ct_records.proofs.Fronts.{says_none, says_then, mark_begins, mark_comma, mark_first, left_is, number_plain, name_behind, around}
 use Rattle.ct_records.proofs.Fronts.{entry_reads}
 use Rattle.ct_records.proofs.Steps.{command_reads, tail_short, tail_numbered, tail_commanded, step_reads}
 use Rattle.ct_records.proofs.Utf8.{valid_then}
@@ -114,11 +114,7 @@ taken_at old new later bytes rest n h le e = λ ss text has is.
     let t = h ss text has is in
     let j = t.joins in
     let at : rest ≡ drop n bytes = rw e (left_is text j.all bytes rest j.split le) in
-    record {
-      steps = t.steps;
-      has = t.has.0;
-      joins = record { all = j.all; is = j.is; split = j.split ∙ ap (λ t. j.all ++ t) at };
-    }
+    record { steps = t.steps; has = t.has.0; joins = record { all = j.all; is = j.is; split = j.split ∙ ap (λ t. j.all ++ t) at } }
 
 -- ---- the text without white space
 
@@ -193,10 +189,6 @@ all_self false (s ∷ ss) h =
 
 steps_self : (ss : List Step) → AllFit ss → Says (steps_text ss) (steps_lexemes false ss) 0
 steps_self ss h = subst (λ t. Says t (steps_lexemes false ss) 0) (rest_of-join 44 (map step_text ss)) (all_self false ss h)
-
--- the text before the steps, theirs, and what follows
-around : (head text last next : List ℕ) → (head ++ (text ++ last)) ++ next ≡ head ++ (text ++ (last ++ next))
-around head text last next = simp append_assoc
 
 -- with white space or without, the steps say the same
 pub steps_same : (head text last : List ℕ) (before : List Lexeme → List Lexeme) (ss : List Step) →

@@ -1,10 +1,9 @@
 -- ASCII in front of a text changes nothing of whether it is UTF-8.
-use Rattle.std.proofs.Common.{◌≡◌, ℕ, ◌^◌, ◌<◌, Bool, true, false, List, [], ◌∷◌, ◌++◌, decimal, refl, sym, ap, ◌∙◌, arith}
-use Rattle.std.proofs.Common.{append_assoc, inl, inr}
-use Rattle.std.specs.Prelude.{◌⊎◌, ◌==◌, ◌||◌}
+use Rattle.std.proofs.Common.{◌≡◌, ℕ, ◌^◌, ◌<◌, true, List, [], ◌∷◌, ◌++◌, decimal, refl, sym, ap, ◌∙◌, arith}
+use Rattle.std.proofs.Common.{append_assoc}
 use Rattle.std.specs.Str.{is_utf8}
 use Rattle.std.specs.Str.Parse.{AllDigits}
-use Rattle.std.proofs.lemmas.Bool.{and_parts, eqb-true, lt-ltb, ltb-true, or_cases}
+use Rattle.std.proofs.lemmas.Bool.{and_parts, lt-ltb, ltb-true}
 use Rattle.std.proofs.lemmas.Fmt.{decimal_is_IsNumeral}
 use Rattle.std.proofs.lemmas.List.Elements.{All-cons, All-head, All-nil, All-tail}
 use Rattle.std.proofs.lemmas.Str.{IsUtf8-append, IsUtf8-past_char, IsUtf8-from_is_utf8, is_utf8-from_IsUtf8, encode_ascii}
@@ -12,14 +11,10 @@ use Rattle.std.proofs.lemmas.Str.Parse.{digit_from_value}
 use Rattle.json.proofs.Printed.Utf8.{are_ascii, IsUtf8-are_ascii}
 use Rattle.json.specs.Word.{is_space}
 use Rattle.ct_records.specs.Reading.{IsAscii, IsValid, IsWhite}
+use Rattle.std.proofs.lemmas.Bool.Decides.{nat_tests}
+use Rattle.ct_names.proofs.Sets.{same_test}
 
 -- ---- bytes
-
--- two tests that hold together are the same
-same_test : (a b : Bool) → (a ≡ true → b ≡ true) → (b ≡ true → a ≡ true) → a ≡ b
-same_test true b f g = sym (f refl)
-same_test false true f g = g refl
-same_test false false f g = refl
 
 ascii_one : (x : ℕ) → x < 128 → are_ascii (x ∷ []) ≡ true
 ascii_one x small = rw (lt-ltb x 128 small) refl
@@ -53,19 +48,7 @@ pub decimal_valid : (n : ℕ) → n < 2 ^ 64 → IsValid (decimal n)
 decimal_valid n h = ascii_valid (decimal n) (digits_ascii (decimal n) (decimal_is_IsNumeral n h).0.1)
 
 space_small : (x : ℕ) → is_space x ≡ true → x < 128
-space_small x h = go (or_cases _ _ h)
-  where
-    first : ((x == 32) ≡ true) ⊎ ((x == 9) ≡ true) → x < 128
-    first (inl e) = omega (arith, eqb-true x 32 e)
-    first (inr e) = omega (arith, eqb-true x 9 e)
-
-    more : (((x == 32) || (x == 9)) ≡ true) ⊎ ((x == 10) ≡ true) → x < 128
-    more (inl e) = first (or_cases _ _ e)
-    more (inr e) = omega (arith, eqb-true x 10 e)
-
-    go : ((((x == 32) || (x == 9)) || (x == 10)) ≡ true) ⊎ ((x == 13) ≡ true) → x < 128
-    go (inl e) = more (or_cases _ _ e)
-    go (inr e) = omega (arith, eqb-true x 13 e)
+space_small x h = grind (arith, nat_tests)
 
 white_ascii : (xs : List ℕ) → IsWhite xs → IsAscii xs
 white_ascii [] h = All-nil (λ b. b < 128)

@@ -65,9 +65,8 @@ command_is c h =
     ) refl
 
 rest_is : (r : Rest) → RestFits r → rest_fits r ≡ true
-rest_is nothing h = refl
 rest_is (steps.number x) h = le-leb (amount x) (largest x) h
-rest_is (command c) h = refl
+rest_is _ h = refl
 
 -- an array of the name, the number and the rest is read as the one step of that name
 entry_is : (name : List ℕ) (first : ℕ) (r : Rest) (s : Step) → first ≤ 255 → RestFits r → rest_fits (step_entry s).rest ≡ true

@@ -22,5 +22,4 @@ returns-in_default-clause-taken g c =
     (taken_at _ _ c.loop.later c.args.bytes.now c.loop.rest.now _ c.loop.invariant.taken c.loop.invariant.shorter refl)
 
 pub returns-clause-taken : goal.returns-clause-taken
-returns-clause-taken g c =
-    taken_at _ _ c.loop.later c.args.bytes.now c.loop.rest.now _ c.loop.invariant.taken c.loop.invariant.shorter refl
+returns-clause-taken g c = taken_at _ _ c.loop.later c.args.bytes.now c.loop.rest.now _ c.loop.invariant.taken c.loop.invariant.shorter refl

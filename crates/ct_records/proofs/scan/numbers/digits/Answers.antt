@@ -8,8 +8,7 @@ pub loop-i-init : goal.loop-i-init
 loop-i-init c =
     let small : c.digit.result < 10 = omega (arith, c.if-n-gt9.false, c.from-n.ensures) in
     rw c.from-n.ensures (record {
-      text =
-          digit_first c.args.bytes.now c.digit.result _ (grind (arith, nat_tests, c.if-is_empty.ensures)) small (c.digit.ensures small);
+      text = digit_first c.args.bytes.now c.digit.result _ (grind (arith, nat_tests, c.if-is_empty.ensures)) small (c.digit.ensures small);
       some = grind (arith, c.if-n-eq0.false, c.from-n.ensures);
     })
 

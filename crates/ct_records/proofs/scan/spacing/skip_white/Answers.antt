@@ -7,8 +7,7 @@ pub loop-i-init : goal.loop-i-init
 loop-i-init c = white_nothing
 
 pub loop-i-preserved : goal.loop-i-preserved
-loop-i-preserved c =
-    white_more c.args.bytes.now c.loop-i.i 0 c.loop-i-test.true (sym c.if-not-is_space.ensures) c.loop-i.invariant
+loop-i-preserved c = white_more c.args.bytes.now c.loop-i.i 0 c.loop-i-test.true (sym c.if-not-is_space.ensures) c.loop-i.invariant
 
 pub returns-then-not-is_space : goal.returns-then-not-is_space
 returns-then-not-is_space c =
