@@ -21,7 +21,7 @@ use Rattle.ct_model.specs.State.{State, at_serial}
 use Rattle.ct_model.specs.When.{when}
 use Rattle.ct_model.specs.Wire.{envelopes}
 use Rattle.ct_model.specs.declared.envelope.Envelope.{Envelope as AnyEnvelope}
-use Rattle.ct_model.specs.declared.mail.Mail.TheVariants.{Nobody, One, All}
+use Rattle.ct_model.specs.declared.mail.Mail.TheVariants.{All}
 use Rattle.ct_model.specs.declared.step.Step.{Step}
 use Rattle.ct_model.proofs.Basics.Options.{some-none, some-same}
 use Rattle.ct_model.proofs.Basics.Tests.{number_same}
@@ -105,12 +105,8 @@ sent_low w p k name s =
 from_sent : (w : Rehearsal) (p k : ℕ) (name : FullName) (f : IsNamed w name.from p name.carried k) → IsSentAs w p name k
 from_sent w p k name f =
     let e = f.envelope in
-    let g : IsFrom w name.from p e.wire k =
-    record { there = f.there ∙ ap (λ z. Some (letter z e.wire)) f.to; sender = f.from } in
-    record {
-      sent = ap is_some (there_wire w p name.from k e.wire g);
-      named = there_named w p name.from k e.wire name g f.carried refl;
-    }
+    let g : IsFrom w name.from p e.wire k = record { there = f.there ∙ ap (λ z. Some (letter z e.wire)) f.to; sender = f.from } in
+    record { sent = ap is_some (there_wire w p name.from k e.wire g); named = there_named w p name.from k e.wire name g f.carried refl }
 
 sent_named : (w : Rehearsal) (p k : ℕ) (name : FullName) → IsSentAs w p name k → IsNamed w name.from p name.carried k
 sent_named w p k name s = receipt_named w p k name (receipt_of w p k name s.sent s.named)
@@ -148,9 +144,8 @@ module _ (w : Rehearsal) (step : Step) (law : IsLawful w) (free : cause w step �
       omega arith
     where
       few_mail : (m : ℕ) (mail : Mail) → 1 ≤ m → length (envelopes m mail) ≤ m
-      few_mail m Nobody some = omega arith
-      few_mail m (One to x) some = omega arith
       few_mail m (All x) some = omega (arith, length-map (counting 1 m) (λ to. letter to x), length-counting 1 m)
+      few_mail m _ some = omega arith
 
 -- ---- the envelope of a serial
 
@@ -196,8 +191,7 @@ module _ {S : Type 0} (m : HashMap Address ℕ S) (w : Rehearsal) (p : ℕ) (nam
     (so : name_at a ≡ name) (index : IsIndex w (get equal.eq m)) where
   -- what is found was sent so
   pub found_sent : (k : ℕ) → get equal.eq m a ≡ Some k → IsSentAs w p name k
-  found_sent k is =
-      subst (λ z. IsSentAs w z name k) to (subst (λ z. IsSentAs w a.to z k) so (index.sent a k is))
+  found_sent k is = subst (λ z. IsSentAs w z name k) to (subst (λ z. IsSentAs w a.to z k) so (index.sent a k is))
 
   -- where nothing is found, nothing was
   pub found_none : get equal.eq m a ≡ None → IsUnsent w p name
@@ -230,8 +224,7 @@ index_more old new w n a index at up = record {
 }
   where
     sent_by : (b : Address) (k : ℕ) (t : Bool) → equal.eq a b ≡ t → cond t (Some (n + 1)) (get equal.eq old b) ≡ Some k → IsAt w b k
-    sent_by b k true is found =
-        subst (λ z. IsAt w z k) (same_address a b is) (subst (λ i. IsAt w a i) (some-same (n + 1) k found) at)
+    sent_by b k true is found = subst (λ z. IsAt w z k) (same_address a b is) (subst (λ i. IsAt w a i) (some-same (n + 1) k found) at)
     sent_by b k false is found = index.sent b k found
 
     all_by : (b : Address) (k : ℕ) (t : Bool) → equal.eq a b ≡ t → k ≤ n + 1 → IsAt w b k →
@@ -256,8 +249,7 @@ index_kept w v step n found law free is count index = subst (λ z. IsIndexTo z n
 
 -- of fewer too
 pub index_less : (w : Rehearsal) (n m : ℕ) (found : Address → Option ℕ) → m ≤ n → IsIndexTo w n found → IsIndexTo w m found
-index_less w n m found less index =
-    record { sent = index.sent; all = λ a k low at none. index.all a k (omega arith) at none }
+index_less w n m found less index = record { sent = index.sent; all = λ a k low at none. index.all a k (omega arith) at none }
 
 -- and of a map with the same entries
 pub index_same : {S : Type 0} (old new : HashMap Address ℕ S) (w : Rehearsal) (n : ℕ) → new.entries ≡ old.entries →

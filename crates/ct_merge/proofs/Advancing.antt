@@ -1,10 +1,10 @@
 -- Lines of several logs, which may grow.
-use Rattle.std.proofs.Common.{◌≡◌, ◌≢◌, ℕ, ◌≤◌, true, List, [], inl, inr, ap, sym, subst, ◌∙◌, arith, leb-true}
-use Rattle.std.proofs.Common.{nat_le, ◌-◌, take, ◌++◌, ◌∷◌, append-nil, length-append}
+use Rattle.std.proofs.Common.{◌≡◌, ◌≢◌, ℕ, ◌≤◌, true, List, [], inl, inr, ap, sym, subst, ◌∙◌, arith}
+use Rattle.std.proofs.Common.{◌-◌, take, ◌++◌, ◌∷◌, append-nil, length-append}
 use Rattle.std.specs.Prelude.{filter, slice_index, All, OnErr, OnOk, Result, Ok, Err}
 use Rattle.std.specs.Global.{Vec}
 use Rattle.std.specs.List.{AllZip}
-use Rattle.std.proofs.lemmas.Bool.{and_parts, cases_eq}
+use Rattle.std.proofs.lemmas.Bool.{cases_eq}
 use Rattle.std.proofs.lemmas.Bool.Decides.{eqb_tells}
 use Rattle.std.proofs.lemmas.List.{take_all, take-append-le}
 use Rattle.ct_names.specs.Group.{is_member}
@@ -15,15 +15,12 @@ use Rattle.ct_merge.specs.declared.log_line.LogLine.{LogLine}
 use Rattle.std.specs.Option.{option_map_or}
 use Rattle.std.proofs.lemmas.List.Elements.{All-get_or}
 use Rattle.std.proofs.lemmas.Option.{slice_get_cases}
-
-pub positive : (n p : ℕ) → is_member n p ≡ true → 1 ≤ p
-positive n p e = leb-true 1 p (and_parts (nat_le 1 p) (nat_le p n) e).0
+use Rattle.ct_names.proofs.Groups.{member_from_one}
 
 taken_as : (old new : Rehearsal) (p : ℕ) (log : List LogLine) (a b : ℕ) → own new p ≡ own old p → b ≡ a → IsTakenTo old p log a →
     IsTakenTo new p log b
 taken_as old new p log a b same e h =
-    let here : IsTakenTo new p log a =
-    record { within = h.within; is = subst (λ l. AllZip IsTold l (take a log)) (sym same) h.is } in
+    let here : IsTakenTo new p log a = record { within = h.within; is = subst (λ l. AllZip IsTold l (take a log)) (sym same) h.is } in
     subst (λ n. IsTakenTo new p log n) (sym e) here
 
 -- more lines of p's log
@@ -43,7 +40,7 @@ advanced logs old mid new p count before here others group counts same at elsewh
       | inr ne ↦
           taken_as old.rehearsal new.rehearsal q (log_of logs q) (count_of old.counts q) (count_of new.counts q)
           (ap (λ (w : Rehearsal). own w q) same ∙ others q ne.1)
-          (elsewhere q (positive old.rehearsal.setting.members q member) ne.1 ∙ ap (λ l. count_of l q) counts)
+          (elsewhere q (member_from_one old.rehearsal.setting.members q member) ne.1 ∙ ap (λ l. count_of l q) counts)
           (before q member)
     ]
 
@@ -88,7 +85,7 @@ grown_on old new t p rest before here others q in_group = elim (cases_eq q p) [
       (ap (log_of new) same ∙ here ∙ ap (λ x. log_of old x ++ rest) (sym same)) (before q in_group)
   | inr other ↦
       subst (λ l. IsTakenTo t.rehearsal q l (count_of t.counts q))
-      (sym (others q (positive t.rehearsal.setting.members q in_group) other)) (before q in_group)
+      (sym (others q (member_from_one t.rehearsal.setting.members q in_group) other)) (before q in_group)
 ]
 
 -- the same, as the line found room or not

@@ -249,8 +249,7 @@ module _ (logs : List (Vec LogLine)) (t : Rehearsal) (u : IsRun t) (lines_t : Is
         omega arith
     by_bar (down crashed) =
         let s = stepping w step h r e in
-        let up : is_crashed (state_of w) p ≡ false =
-        subst (λ q. is_crashed (state_of w) q ≡ false) (own_actor p (at w step) mine) s.up in
+        let up : is_crashed (state_of w) p ≡ false = subst (λ q. is_crashed (state_of w) q ≡ false) (own_actor p (at w step) mine) s.up in
         let here : is_crashed (state_of w) p ≡ true = ap (λ (m : Member). m.crashed) alike.member ∙ crashed in
         cc
     by_bar (refused there none) = taken_too there none
@@ -299,8 +298,7 @@ pub no_further : (logs : List (Vec LogLine)) (t w : Rehearsal) (stays : ℕ → 
     IsBegun t logs → IsBegun w logs → AreBarred logs t stays → (p : ℕ) → stays p ≡ true →
     IsMember w.setting.members p → length (own w p) ≤ length (own t p)
 unfolding NotBeyond
-no_further logs t w stays u r group a b barred =
-    not_beyond logs t u (by_lines logs t a) stays barred w r group (by_lines logs w b)
+no_further logs t w stays u r group a b barred = not_beyond logs t u (by_lines logs t a) stays barred w r group (by_lines logs w b)
 
 -- so where one of their logs goes on no run is a merge
 pub no_merge : (logs : List (Vec LogLine)) (t w : Rehearsal) (stays : ℕ → Bool) → IsRun t → IsRun w → t.setting ≡ w.setting →

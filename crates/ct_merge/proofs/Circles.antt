@@ -89,8 +89,7 @@ module _ (logs : List (Vec LogLine)) (t : Taken) where
           IsIn x (if b then y ∷ [] else y ∷ up_to q ys) → (x ≡ q) ⊎ IsOneOf x (if b then y ∷ [] else y ∷ up_to q ys)
       by_test true is on (inl e) = inl (e ∙ same_number y q is)
       by_test true is on (inr h) = absurd h
-      by_test false is on (inl e) =
-          inr (subst (λ z. IsOneOf z (y ∷ up_to q ys)) (sym e) (over y (head_waits ys refl (rest (other is)))))
+      by_test false is on (inl e) = inr (subst (λ z. IsOneOf z (y ∷ up_to q ys)) (sym e) (over y (head_waits ys refl (rest (other is)))))
       by_test false is on (inr h) = elim (on (rest (other is)) x h) [
         | inl e ↦ inl e
         | inr f ↦ inr (over x f)

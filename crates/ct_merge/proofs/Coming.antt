@@ -69,8 +69,7 @@ submits s g p m (step.Submit a c) o e q =
 submits s g p m (step.Receive a k) o e q = silent _ o (a == q) (made-map (receive s p m) (wire_to g p k) o e).gives refl
 submits s g p m (step.Begin a) o e q = silent _ o (a == q) (begin_row-is s p m o e).1 refl
 submits s g p m (step.Enter a) o e q = silent _ o (a == q) (round_row-is m (turn_at s.members p m moves.Enter) o e).gives refl
-submits s g p m (step.Choose a from) o e q =
-    silent _ o (a == q) (round_row-is m (turn_at s.members p m (moves.Choose from)) o e).gives refl
+submits s g p m (step.Choose a from) o e q = silent _ o (a == q) (round_row-is m (turn_at s.members p m (moves.Choose from)) o e).gives refl
 submits s g p m (step.Adopt a) o e q = silent _ o (a == q) (round_row-is m (turn_at s.members p m moves.Adopt) o e).gives refl
 submits s g p m (step.Suspect a) o e q = silent _ o (a == q) (round_row-is m (turn_at s.members p m moves.Suspect) o e).gives refl
 submits s g p m (step.Conclude a) o e q = silent _ o (a == q) (round_row-is m (turn_at s.members p m moves.Conclude) o e).gives refl
@@ -118,11 +117,7 @@ receipt_of w r p isp c (step.Receive q k) there e =
     let two = and_parts (q == p) (is_passed c (option_map without_value (at_serial (state_of w).sent k))) e in
     let here : IsIn (step.Receive p k) w.steps = subst (λ z. IsIn (step.Receive z k) w.steps) (same_number q p two.0) there in
     let f = (history-run w.setting w.steps (state_of w) r).come p k isp here in
-    record {
-      wire = (f.envelope).wire;
-      is_in = f.got;
-      passes = subst (λ o. is_passed c (option_map without_value o) ≡ true) f.at two.1;
-    }
+    record { wire = (f.envelope).wire; is_in = f.got; passes = subst (λ o. is_passed c (option_map without_value o) ≡ true) f.at two.1 }
 receipt_of w r p isp c _ there e = absurd (cc)
 
 received_is : (w : Rehearsal) → IsRun w → (p : ℕ) → IsMember w.setting.members p → (c : Carried) → received w p c ≡ true →
@@ -265,8 +260,7 @@ module _ (w : Rehearsal) (q : ℕ) (isq : IsMember w.setting.members q) where
         phase_is k r
         ∙ (ap (λ o. phase_at (Some (m.last, is_some m.current)) (option_map (λ (c : Standing). (c.round, c.phase)) o) k r) at
         ∙ ap (λ b. if b then Some c.phase else None) is) in
-        let low : far ≤ rank c.phase =
-        t.within c.phase (has_before w q k r) (ap (λ o. test o (has_before w q k r)) (sym phase) ∙ e) in
+        let low : far ≤ rank c.phase = t.within c.phase (has_before w q k r) (ap (λ o. test o (has_before w q k r)) (sym phase) ∙ e) in
         inl (record {
           instance = omega (arith, same);
           stage = λ _ x there.

@@ -33,8 +33,8 @@ use Rattle.ct_merge.specs.Stops.{Differs, IsAsked, IsCulprit, IsFaultAt, IsRepet
 use Rattle.ct_merge.specs.Waits.{NeverMerges, is_full, is_limit, is_wait}
 use Rattle.ct_merge.specs.declared.full_name.FullName.{FullName}
 use Rattle.ct_merge.specs.declared.log_act.LogAct.{LogAct}
-use Rattle.ct_merge.specs.declared.log_act.LogAct.TheVariants.{Submit, Receive, Begin, Enter, Choose, Adopt, Suspect, Conclude, Deliver}
-use Rattle.ct_merge.specs.declared.log_act.LogAct.TheVariants.{Follow, Crash}
+use Rattle.ct_merge.specs.declared.log_act.LogAct.TheVariants.{Receive}
+use Rattle.ct_merge.specs.declared.log_act.LogAct.TheVariants.{Crash}
 use Rattle.ct_merge.specs.declared.log_line.LogLine.{LogLine}
 use Rattle.ct_merge.specs.declared.own_fault.OwnFault.{OwnFault}
 use Rattle.ct_merge.specs.declared.own_fault.OwnFault.TheVariants as own_fault
@@ -85,25 +85,16 @@ own_cause w step r e own present = by_tests (first_fault (own_tests w step)) ref
         let limited : limit w step ≡ Some r = sym (cause-present w step present ∙ ap (λ o. or_else o (limit w step)) is) ∙ e in
         let full : is_full r ≡ true = limit_full w step r limited in
         absurd (cc)
-    by_tests (Some x) is =
-        is ∙ (sym (cause-present w step present ∙ ap (λ o. or_else o (limit w step)) is) ∙ e)
+    by_tests (Some x) is = is ∙ (sym (cause-present w step present ∙ ap (λ o. or_else o (limit w step)) is) ∙ e)
 
 -- where a row gives an outcome, no test of a told step fires, but that of a receipt
 row_free : (w : Rehearsal) (p k : ℕ) (act : LogAct) (o : Outcome) → ((name : FullName) → act ≡ Receive name → ⊥) →
     row w.setting (state_of w) p (member (state_of w) p) (step_of p k act) ≡ Some o →
     first_fault (tests w.setting (state_of w) (member (state_of w) p) (line_of w p) (step_of p k act)) ≡ None
 unfolding enter choose adopt suspect conclude
-row_free w p k (Submit c) o other e = grind arith
 row_free w p k (Receive name) o other e = absurd (other name refl)
-row_free w p k Begin o other e = grind arith
-row_free w p k Enter o other e = grind arith
-row_free w p k (Choose from) o other e = grind arith
-row_free w p k Adopt o other e = grind arith
-row_free w p k Suspect o other e = grind arith
-row_free w p k Conclude o other e = grind arith
-row_free w p k Deliver o other e = grind arith
-row_free w p k Follow o other e = grind arith
 row_free w p k Crash o other e = refl
+row_free w p k _ o other e = grind arith
 
 -- no test of a receipt fires where the envelope waits, nor one of a repetition where it was sent and doesn't
 receipt_free : (w : Rehearsal) (p k : ℕ) → is_waiting w p k ≡ true → first_fault (own_tests w (step.Receive p k)) ≡ None

@@ -15,7 +15,6 @@ use Rattle.ct_merge.specs.declared.log_act.LogAct.TheVariants.{Submit, Receive}
 
 pub acts_of : (p k : ℕ) (act : LogAct) → actor (step_of p k act) ≡ p
 acts_of p k (Submit c) = refl
-acts_of p k (Receive name) = refl
 acts_of p k _ = refl
 
 -- the rows of a step in two states are one
@@ -29,8 +28,7 @@ row_local s g h p k l m _ count got = refl
 outcome_at : (s : Setting) (g : State) (p k : ℕ) (act : LogAct) →
     outcome_of s g (step_of p k act) ≡ (if can_act s g p then row s g p (member g p) (step_of p k act) else None)
 unfolding outcome_of
-outcome_at s g p k act =
-    ap (λ q. if can_act s g q then row s g q (member g q) (step_of p k act) else None) (acts_of p k act)
+outcome_at s g p k act = ap (λ q. if can_act s g q then row s g q (member g q) (step_of p k act) else None) (acts_of p k act)
 
 -- a member's step depends on how the member stands, on how many messages it submitted, and on what it receives
 pub outcome_local : (s : Setting) (g h : State) (p k l : ℕ) (act : LogAct) → IsLike p g h → gets g p k act ≡ gets h p l act →

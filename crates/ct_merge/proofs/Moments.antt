@@ -61,8 +61,7 @@ get_many (suc n) (suc i) x h = get_many n i x (omega arith)
 
 pub own_front : (w : Rehearsal) (step : Step) (p i : ℕ) (m : Moment) → slice_get (own w p) i ≡ Some m →
     slice_get (own (extended w step) p) i ≡ Some m
-own_front w step p i m e =
-    ap (λ l. slice_get l i) (own_more w p step) ∙ get-front (own w p) (only (is_own p (at w step)) (at w step)) i m e
+own_front w step p i m e = ap (λ l. slice_get l i) (own_more w p step) ∙ get-front (own w p) (only (is_own p (at w step)) (at w step)) i m e
 
 -- this is p's, and the step is p's own
 pub record IsLast (w : Rehearsal) (step : Step) (p i : ℕ) (m : Moment) : Type 0 where

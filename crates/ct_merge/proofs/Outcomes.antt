@@ -32,8 +32,8 @@ use Rattle.ct_merge.specs.Merging.{step_of}
 use Rattle.ct_merge.specs.Runs.{IsRun}
 use Rattle.ct_merge.specs.declared.full_name.FullName.{FullName}
 use Rattle.ct_merge.specs.declared.log_act.LogAct.{LogAct}
-use Rattle.ct_merge.specs.declared.log_act.LogAct.TheVariants.{Submit, Receive, Begin, Enter, Choose, Adopt, Suspect, Conclude, Deliver}
-use Rattle.ct_merge.specs.declared.log_act.LogAct.TheVariants.{Follow, Crash}
+use Rattle.ct_merge.specs.declared.log_act.LogAct.TheVariants.{Receive, Begin, Enter, Choose, Adopt, Conclude, Deliver}
+use Rattle.ct_merge.specs.declared.log_act.LogAct.TheVariants.{Follow}
 use Rattle.ct_merge.proofs.Begun.{is_member_of}
 use Rattle.ct_merge.proofs.Local.{acts_of, outcome_is}
 use Rattle.ct_merge.proofs.Moments.{IsPlaced, get_last, placed}
@@ -95,8 +95,7 @@ last_text w r p b isp test e =
 closes : (m o : Member) (b : Batch) → o.batches ≡ m.batches ++ b ∷ [] → o.last ≡ b.instance →
     ((i : ℕ) (x : Batch) → slice_get o.batches i ≡ Some x → x.instance ≡ i + 1) → at_serial o.batches o.last ≡ Some b
 closes m o b batches last place =
-    let there : slice_get o.batches (length m.batches) ≡ Some b =
-    ap (λ l. slice_get l (length m.batches)) batches ∙ get_last m.batches b in
+    let there : slice_get o.batches (length m.batches) ≡ Some b = ap (λ l. slice_get l (length m.batches)) batches ∙ get_last m.batches b in
     let number : o.last ≡ suc (length m.batches) = omega (arith, place (length m.batches) b there, last) in
     ap (at_serial o.batches) number ∙ there
 
@@ -125,8 +124,7 @@ closed_row s g p k m Follow o c e =
 closed_row s g p k m _ o c e = absurd c
 
 last_same : (xs : List Wire) (x y : Wire) → xs ++ x ∷ [] ≡ xs ++ y ∷ [] → x ≡ y
-last_same xs x y e =
-    some-same x y (sym (get_last xs x) ∙ (ap (λ l. slice_get l (length xs)) e ∙ get_last xs y))
+last_same xs x y e = some-same x y (sym (get_last xs x) ∙ (ap (λ l. slice_get l (length xs)) e ∙ get_last xs y))
 
 -- what an own step of p is, and what it leaves
 module _ (w : Rehearsal) (p i : ℕ) (m : Moment) (f : IsPlaced w p i m) (act : LogAct) (told : act_of m.before m.step ≡ Some act) where
@@ -146,12 +144,10 @@ module _ (w : Rehearsal) (p i : ℕ) (m : Moment) (f : IsPlaced w p i m) (act : 
   turn = next-is s g (step_of p telling.serial act) f.state enabled
 
   deed : deed_of m ≡ Some turn.outcome
-  deed =
-      ap (λ z. outcome_of s g z) telling.is ∙ outcome_is s g (step_of p telling.serial act) f.state turn
+  deed = ap (λ z. outcome_of s g z) telling.is ∙ outcome_is s g (step_of p telling.serial act) f.state turn
 
   row_is : row s g p (member g p) (step_of p telling.serial act) ≡ Some turn.outcome
-  row_is =
-      subst (λ q. row s g q (member g q) (step_of p telling.serial act) ≡ Some turn.outcome) (acts_of p telling.serial act) turn.row
+  row_is = subst (λ q. row s g q (member g q) (step_of p telling.serial act) ≡ Some turn.outcome) (acts_of p telling.serial act) turn.row
 
   -- the outcome, and the member that it leaves
   stands : member (behind m) p ≡ (turn.outcome).member
@@ -207,10 +203,8 @@ by_act w v p k l group same (Choose from) carried batch = heard_same w v p group
 by_act w v p k l group same Adopt carried batch = estimate_same w v p group same
 by_act w v p k l group same Deliver carried batch = batch tt
 by_act w v p k l group same Follow carried batch = batch tt
-by_act w v p k l group same (Submit c) carried batch = refl
-by_act w v p k l group same Suspect carried batch = refl
 by_act w v p k l group same Conclude carried batch = alone_same w v p group same
-by_act w v p k l group same Crash carried batch = refl
+by_act w v p k l group same _ carried batch = refl
 
 -- the same own step of two runs comes to the same text
 pub text_same : (w v : Rehearsal) (p i j : ℕ) (m n : Moment) (act : LogAct) → IsRun w → IsRun v → v.setting ≡ w.setting →

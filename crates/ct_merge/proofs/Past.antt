@@ -48,10 +48,7 @@ pub record IsOn (m o : Member) : Type 0 where
 
 on_same : (m o : Member) → o.last ≡ m.last → o.current ≡ m.current → ((w : Wire) → IsIn w m.got → IsIn w o.got) → IsOn m o
 on_same m o last current got = record {
-  passed = λ k far h. record {
-    instance = omega (arith, h.instance);
-    stage = λ e c at. h.stage (e ∙ last) c (sym current ∙ at);
-  };
+  passed = λ k far h. record { instance = omega (arith, h.instance); stage = λ e c at. h.stage (e ∙ last) c (sym current ∙ at) };
   got = got;
 }
 
@@ -69,25 +66,18 @@ on_turn m c d open_at more = record {
 
 on_more : (m o : Member) → o.last ≡ m.last + 1 → o.got ≡ m.got → IsOn m o
 on_more m o last got = record {
-  passed = λ k far h. record {
-    instance = omega (arith, h.instance);
-    stage = λ e c at. absurd (omega (arith, h.instance));
-  };
+  passed = λ k far h. record { instance = omega (arith, h.instance); stage = λ e c at. absurd (omega (arith, h.instance)) };
   got = λ w h. rw got h;
 }
 
 on_closed : (m o : Member) → o.last ≡ m.last → o.current ≡ None → o.got ≡ m.got → IsOn m o
 on_closed m o last closed got = record {
-  passed = λ k far h. record {
-    instance = omega (arith, h.instance);
-    stage = λ e c at. some-none c (sym closed ∙ at);
-  };
+  passed = λ k far h. record { instance = omega (arith, h.instance); stage = λ e c at. some-none c (sym closed ∙ at) };
   got = λ w h. rw got h;
 }
 
 message_on : (m o : Member) → IsOn m o → (x n : ℕ) → HasMessage m x n → HasMessage o x n
-message_on m o on x n h =
-    record { message = h.message; is_in = on.got (wire.Data h.message) h.is_in; origin = h.origin; number = h.number }
+message_on m o on x n h = record { message = h.message; is_in = on.got (wire.Data h.message) h.is_in; origin = h.origin; number = h.number }
 
 pub decision_on : (m o : Member) → IsOn m o → (k r : ℕ) → HasDecision m k r → HasDecision o k r
 decision_on m o on k r h = record { value = h.value; is_in = on.got (wire.Dec k r h.value) h.is_in }
@@ -98,8 +88,7 @@ past_on n p m o a b on more (Est k r) h = on.passed k (r * 4) h
 past_on n p m o a b on more (Prop k r) h = on.passed k (r * 4 + 1) h
 past_on n p m o a b on more (Ack k r) h = on.passed k (r * 4 + 2) h
 past_on n p m o a b on more (Nack k r) h = on.passed k (r * 4 + 2) h
-past_on n p m o a b on more (Dec k r) h =
-    ((λ e. on.passed k (r * 4 + 3) (h.0 e)), (λ ne. decision_on m o on k r (h.1 ne)))
+past_on n p m o a b on more (Dec k r) h = ((λ e. on.passed k (r * 4 + 3) (h.0 e)), (λ ne. decision_on m o on k r (h.1 ne)))
 
 -- ---- what a step sends
 
@@ -138,10 +127,7 @@ module _ (n p : ℕ) (m : Member) (count : ℕ) (c : Standing) (open_at : m.curr
   not_past far h = h.stage refl c open_at
 
   now_past : (t : Turn) (far : ℕ) → far ≤ stage t.after → HasPassed (turned_to t) m.last far
-  now_past t far h = record {
-    instance = omega arith;
-    stage = λ e x at. subst (λ y. far ≤ stage y) (some-same t.after x at) h;
-  }
+  now_past t far h = record { instance = omega arith; stage = λ e x at. subst (λ y. far ≤ stage y) (some-same t.after x at) h }
 
   enters : is_rest c.phase ≡ true → SendsOnce n p m count (turned_to (entered n p m.last c)) count (entered n p m.last c).mail
   enters rest =
@@ -244,8 +230,7 @@ unfolding is_relayed
 relayed_decision s p got k r v h = (grind (arith, nat_tests), grind (arith, nat_tests))
 
 decided_there : (m : Member) (k r : ℕ) → HasDecision m k r → has_decision m.got k r ≡ true
-decided_there m k r h =
-    Lists.list_any-found (is_decision k r) (wire.Dec k r h.value) m.got h.is_in (grind (arith, nat_tests))
+decided_there m k r h = Lists.list_any-found (is_decision k r) (wire.Dec k r h.value) m.got h.is_in (grind (arith, nat_tests))
 
 module _ (s : Setting) (g : State) (p : ℕ) (knows : KnowsMessages s g) (holds : Holds s g) (is : IsMember s.members p) where
   abbrev m : Member
@@ -272,10 +257,8 @@ module _ (s : Setting) (g : State) (p : ℕ) (knows : KnowsMessages s g) (holds 
   relays_fresh (wire.Data x) k at relayed h =
       let r = relayed_message s p m.got x relayed in
       let old = h.1 r.1 in
-      let same : old.message ≡ x =
-      knows.unique old.message x (got_known old.message old.is_in) (sent_known x k at) old.origin old.number in
-      let there : has (received m.got) x ≡ true =
-      Values.has-in (received m.got) x (Readings.got-received m.got x (rw same at old.is_in)) in
+      let same : old.message ≡ x = knows.unique old.message x (got_known old.message old.is_in) (sent_known x k at) old.origin old.number in
+      let there : has (received m.got) x ≡ true = Values.has-in (received m.got) x (Readings.got-received m.got x (rw same at old.is_in)) in
       cc
   relays_fresh (wire.Dec k r v) i at relayed h =
       let f = relayed_decision s p m.got k r v relayed in

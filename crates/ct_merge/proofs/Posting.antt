@@ -82,8 +82,7 @@ module _ (w : Rehearsal) (step : Step) (h : State) (r : IsRun w) (e : next w.set
   -- what had a serial has it
   pub from_kept : (p q : ℕ) (x : Wire) (k : ℕ) → IsFrom w p q x k → IsFrom longer p q x k
   from_kept p q x k f = record {
-    there =
-        ap (λ l. at_serial l k) (sent_more w step h r e) ∙ at-front (state_of w).sent mail k (letter q x) f.there;
+    there = ap (λ l. at_serial l k) (sent_more w step h r e) ∙ at-front (state_of w).sent mail k (letter q x) f.there;
     sender =
         ap (λ l. at_serial l k) (senders_next w step h r e)
         ∙ at-front (senders w.setting w.steps) (replicate (length h.sent - length (state_of w).sent) (actor step)) k p f.sender;
@@ -95,13 +94,11 @@ module _ (w : Rehearsal) (step : Step) (h : State) (r : IsRun w) (e : next w.set
       let same : s.outcome ≡ t.outcome = some-same s.outcome t.outcome (sym s.is ∙ deed_now) in
       let there : slice_get mail s.place ≡ Some (letter q x) =
       subst (λ (o : Outcome). slice_get (envelopes w.setting.members o.mail) s.place ≡ Some (letter q x)) same s.there in
-      let count : length (senders w.setting w.steps) ≡ length (state_of w).sent =
-      (history-run w.setting w.steps (state_of w) r).count in
+      let count : length (senders w.setting w.steps) ≡ length (state_of w).sent = (history-run w.setting w.steps (state_of w) r).count in
       let low : s.place < length mail = get_below mail s.place (letter q x) there in
       let all : length (state_of longer).sent ≡ length (state_of w).sent + length mail =
       ap length (sent_more w step h r e) ∙ length-append (state_of w).sent mail in
-      let grown : length h.sent ≡ length (state_of longer).sent =
-      ap (λ (g : State). length g.sent) (sym (state_next w step h e)) in
+      let grown : length h.sent ≡ length (state_of longer).sent = ap (λ (g : State). length g.sent) (sym (state_next w step h e)) in
       let many : s.place < length h.sent - length (state_of w).sent = omega arith in
       let who : slice_get (senders w.setting w.steps ++ replicate (length h.sent - length (state_of w).sent) (actor step))
       (length (senders w.setting w.steps) + s.place) ≡ Some (actor step) =
@@ -119,12 +116,7 @@ module _ (w : Rehearsal) (step : Step) (h : State) (r : IsRun w) (e : next w.set
       )
 
   posted_kept : (p q : ℕ) (x : Wire) → IsPosted w p q x → IsPosted longer p q x
-  posted_kept p q x f = record {
-    place = f.place;
-    moment = f.moment;
-    there = own_front w step p f.place f.moment f.there;
-    sends = f.sends;
-  }
+  posted_kept p q x f = record { place = f.place; moment = f.moment; there = own_front w step p f.place f.moment f.there; sends = f.sends }
 
   posted_new : (p q : ℕ) (x : Wire) (i : ℕ) → p ≡ actor step → slice_get mail i ≡ Some (letter q x) → IsPosted longer p q x
   posted_new p q x i mine there =

@@ -1,6 +1,5 @@
 -- The texts of logs, line by line.
-use Rattle.std.proofs.Common.{◌≡◌, ℕ, ◌+◌, List, [], ◌∷◌, take, drop, Ok, Err, Result, ap, sym, subst, refl, ◌∙◌}
-use Rattle.std.proofs.Common.{Option, Some, None}
+use Rattle.std.proofs.Common.{◌≡◌, ℕ, ◌+◌, List, [], ◌∷◌, take, drop, Ok, Err, Result, ap, sym, subst, refl, ◌∙◌, Option, Some, None}
 use Rattle.std.specs.List.{position}
 use Rattle.ct_grammar.specs.Texts.{is_feed, lines_of}
 use Rattle.ct_grammar.proofs.LineFeeds.{first_line, only_line}

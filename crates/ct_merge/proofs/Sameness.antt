@@ -170,8 +170,7 @@ same_wire w v x p k l name r u run_x group old earlier a b = by_place (below_or_
         sends_same there.moment m p b.wire (sym same.outcome) ((g.setting ∙ group) ∙ sym f.setting) there.sends in
         let place : here.place ≡ there.place =
         sends_apart w r (name.from) p here.place there.place here.moment m a.wire b.wire here.there at here.sends sends named in
-        let one : here.moment ≡ m =
-        some-same here.moment m (sym here.there ∙ (ap (λ i. slice_get (own w (name.from)) i) place ∙ at)) in
+        let one : here.moment ≡ m = some-same here.moment m (sym here.there ∙ (ap (λ i. slice_get (own w (name.from)) i) place ∙ at)) in
         sends_one m p a.wire b.wire (subst (λ z. Sends z p a.wire) one here.sends) sends
 
     later_there : (n : Moment) → slice_get (own v (name.from)) here.place ≡ Some n → here.place < there.place → a.wire ≡ b.wire
@@ -179,8 +178,7 @@ same_wire w v x p k l name r u run_x group old earlier a b = by_place (below_or_
         let same = old (name.from) isq here.place here.moment n here.there at in
         let f = placed w r (name.from) here.place here.moment here.there in
         let g = placed v u (name.from) here.place n at in
-        let sends : Sends n p a.wire =
-        sends_same here.moment n p a.wire same.outcome (f.setting ∙ sym (g.setting ∙ group)) here.sends in
+        let sends : Sends n p a.wire = sends_same here.moment n p a.wire same.outcome (f.setting ∙ sym (g.setting ∙ group)) here.sends in
         let place : here.place ≡ there.place =
         sends_apart v u (name.from) p here.place there.place n there.moment a.wire b.wire at there_too sends there.sends named in
         absurd (omega arith)
@@ -189,8 +187,7 @@ same_wire w v x p k l name r u run_x group old earlier a b = by_place (below_or_
     by_place (inl low) = let m = get_there (own w (name.from)) there.place low in both_here m.0 m.1
     by_place (inr high) =
         let mine : here.place < length (own w (name.from)) = get_below (own w (name.from)) here.place here.moment here.there in
-        let theirs : there.place < length (own v (name.from)) =
-        get_below (own v (name.from)) there.place there.moment there_too in
+        let theirs : there.place < length (own v (name.from)) = get_below (own v (name.from)) there.place there.moment there_too in
         let n = get_there (own v (name.from)) here.place (omega arith) in
         later_there n.0 n.1 (omega arith)
 

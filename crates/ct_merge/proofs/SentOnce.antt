@@ -309,8 +309,7 @@ named_once : (w : Rehearsal) → IsRun w → (p q : ℕ) (c : Carried) (j k : �
 named_once w r = (once_run w r).one
 
 pub one_receipt : (w : Rehearsal) → IsRun w → (p j k : ℕ) (name : FullName) → IsReceipt w p j name → IsReceipt w p k name → j ≡ k
-one_receipt w r p j k name a b =
-    named_once w r name.from p name.carried j k (receipt_named w p j name a) (receipt_named w p k name b)
+one_receipt w r p j k name a b = named_once w r name.from p name.carried j k (receipt_named w p j name a) (receipt_named w p k name b)
 
 -- a sender has behind it what it sent
 pub named_past : (w : Rehearsal) → IsRun w → (p q : ℕ) (c : Carried) (k : ℕ) → IsNamed w p q c k →

@@ -94,8 +94,7 @@ module _ (logs : List (Vec LogLine)) (t : Taken) (p : ℕ) (line : LogLine) (nam
 
     pub awaits : may_come t.rehearsal p name ≡ true → count_of t.counts name.from < length (log_of logs name.from) →
         IsWait logs t p name.from
-    awaits m more =
-        record { line = line; next = next; receives = receives t.rehearsal p line name true act unsent m; more = more }
+    awaits m more = record { line = line; next = next; receives = receives t.rehearsal p line name true act unsent m; more = more }
 
 pub ruleset waits = (never, ended, awaits, crashed)
 

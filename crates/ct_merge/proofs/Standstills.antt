@@ -33,8 +33,7 @@ refused_more s cells logs refused more c all is fault e =
 -- one more that stands
 pub stopped_more : (logs : List (Vec LogLine)) (t : Taken) (lines more : List StoppedLine) (s : StoppedLine) →
     All (IsStoppedAt logs t) lines → IsStoppedAt logs t s → more ≡ lines ++ s ∷ [] → All (IsStoppedAt logs t) more
-stopped_more logs t lines more s all at e =
-    subst (λ l. All (IsStoppedAt logs t) l) (sym e) (All-push (IsStoppedAt logs t) lines s all at)
+stopped_more logs t lines more s all at e = subst (λ l. All (IsStoppedAt logs t) l) (sym e) (All-push (IsStoppedAt logs t) lines s all at)
 
 -- ---- a line of each log
 
@@ -76,8 +75,7 @@ module _ (logs : List (Vec LogLine)) (t : Taken) (refused : List Culprit) where
       (inr (inr (more_told (i + 1) ∙ or_right (is_waiting lines (i + 1)) (is_waiting (s ∷ []) (i + 1)) now)))
     where
       more_told : (q : ℕ) → is_waiting more q ≡ (is_waiting lines q || is_waiting (s ∷ []) q)
-      more_told q =
-          ap (λ l. is_waiting l q) pushed ∙ list_any-append (λ (x : StoppedLine). x.member == q) lines (s ∷ [])
+      more_told q = ap (λ l. is_waiting l q) pushed ∙ list_any-append (λ (x : StoppedLine). x.member == q) lines (s ∷ [])
 
       now : is_waiting (s ∷ []) (i + 1) ≡ true
       now = or_left (s.member == (i + 1)) false (eq-eqb s.member (i + 1) (member ∙ e))

@@ -42,10 +42,7 @@ asked : (w : Rehearsal) (p k : ℕ) (line : LogLine) → IsSerialOf w p line.act
     IsOfAbsent w p (step_of p k line.act) ⊎ IsAsked w p line (step_of p k line.act)
 asked w p k line serial there = elim (present_or w p) [
   | inl present ↦
-      inr (record {
-        waits = there present;
-        is = inl (record { actor = acts_of p k line.act; act = act_is w p k line.act serial });
-      })
+      inr (record { waits = there present; is = inl (record { actor = acts_of p k line.act; act = act_is w p k line.act serial }) })
   | inr absent ↦ inl (record { actor = acts_of p k line.act; absent = absent })
 ]
 
@@ -98,13 +95,7 @@ pub stuck_after : (old mid new : Rehearsal) (p k : ℕ) (line : LogLine) (f : Ow
     UnlessShort (is_short (line_fault_of f)) (IsStuck old p line f)
 stuck_after old mid new p k line f lawful leaves later serial allowed e h =
     unless_more (is_short (line_fault_of f)) (IsOutcome new (step_of p k line.act) line.said f) (IsStuck old p line f)
-    (λ r. record {
-      at = mid;
-      lawful = lawful;
-      leaves = leaves;
-      group = later;
-      fails = differs mid new p k line f serial allowed e r;
-    }) h
+    (λ r. record { at = mid; lawful = lawful; leaves = leaves; group = later; fails = differs mid new p k line f serial allowed e r }) h
 
 pub ruleset stuck = (stuck_before, stuck_at, stuck_after)
 
@@ -165,5 +156,4 @@ after_refused s step f e = by_cause s step f (cause s.rehearsal step) refl e
 -- or refused it
 pub step_refused : (s : Played) (step : Step) (f : LineFault) → UnlessShort (is_short f) (stepped s step ≡ Err f) →
     UnlessShort (is_short f) (IsRefusedBy s.rehearsal step f)
-step_refused s step f h =
-    unless_more (is_short f) (stepped s step ≡ Err f) (IsRefusedBy s.rehearsal step f) (after_refused s step f) h
+step_refused s step f h = unless_more (is_short f) (stepped s step ≡ Err f) (IsRefusedBy s.rehearsal step f) (after_refused s step f) h

@@ -3,7 +3,7 @@ use Rattle.std.proofs.Common.{◌≡◌, ◌≢◌, ℕ, ◌+◌, ◌<◌, ◌==
 use Rattle.std.proofs.Common.{ap, sym, ◌∙◌, refl, length, take, arith, subst, length-append}
 use Rattle.std.specs.Prelude.{option_map, slice_get}
 use Rattle.std.specs.List.{AllZip}
-use Rattle.std.proofs.lemmas.Bool.{eq-eqb, ne_eqb}
+use Rattle.std.proofs.lemmas.Bool.{ne_eqb}
 use Rattle.std.proofs.lemmas.List.{take_more}
 use Rattle.std.proofs.lemmas.Option.{get_or_from_slice_get}
 use Rattle.std.proofs.lemmas.Slice.Zip.{all_zipped_more}
@@ -21,19 +21,17 @@ use Rattle.ct_merge.specs.declared.log_act.LogAct.TheVariants as told
 use Rattle.ct_merge.specs.declared.log_line.LogLine.{LogLine}
 use Rattle.ct_merge.proofs.Moments.{get_below}
 use Rattle.ct_merge.proofs.Owning.{at, own_joins, own_stays}
+use Rattle.ct_model.proofs.Basics.Tests.{self_number}
 
 -- ---- one step
-
-same_member : (p : ℕ) → (p == p) ≡ true
-same_member p = eq-eqb p p refl
 
 other_member : (p q : ℕ) → q ≢ p → (p == q) ≡ false
 other_member p q ne = ne_eqb p q (λ e. ne (sym e))
 
 -- the step of a log's act is its member's own
 pub own_step : (w : Rehearsal) (p k : ℕ) (act : LogAct) → is_own p (at w (step_of p k act)) ≡ true
-own_step w p k (told.Submit c) = ap (λ b. b && true) (same_member p)
-own_step w p k _ = ap (λ b. b && true) (same_member p)
+own_step w p k (told.Submit c) = ap (λ b. b && true) (self_number p)
+own_step w p k _ = ap (λ b. b && true) (self_number p)
 
 -- and no other's
 others_step : (w : Rehearsal) (p k q : ℕ) (act : LogAct) → q ≢ p → is_own q (at w (step_of p k act)) ≡ false
@@ -46,8 +44,7 @@ and_false false = refl
 
 -- a repetition is nobody's own
 pub repeats : (old new : Rehearsal) (p k : ℕ) → new ≡ extended old (Repeat p k) → LeavesAll old new
-repeats old new p k e q =
-    ap (λ (w : Rehearsal). own w q) e ∙ own_stays old q (Repeat p k) (and_false (p == q))
+repeats old new p k e q = ap (λ (w : Rehearsal). own w q) e ∙ own_stays old q (Repeat p k) (and_false (p == q))
 
 pub leaves_same : (old new : Rehearsal) → new ≡ old → LeavesAll old new
 leaves_same old new e q = ap (λ (w : Rehearsal). own w q) e
@@ -64,11 +61,7 @@ later_step old new step e =
     (record { setting = refl; cells = refl; steps = omega (arith, length-append old.steps (step ∷ [])) })
 
 pub later_on : (old mid new : Rehearsal) → IsLater old mid → IsLater mid new → IsLater old new
-later_on old mid new a b = record {
-  setting = b.setting ∙ a.setting;
-  cells = b.cells ∙ a.cells;
-  steps = omega (arith, a.steps, b.steps);
-}
+later_on old mid new a b = record { setting = b.setting ∙ a.setting; cells = b.cells ∙ a.cells; steps = omega (arith, a.steps, b.steps) }
 
 -- the step behind what was the same group
 pub later_more : (old mid new : Rehearsal) (step : Step) → IsLater old mid → new ≡ extended mid step → IsLater old new
@@ -78,8 +71,7 @@ later_more old mid new step a e = later_on old mid new a (later_step mid new ste
 pub steps_more : (old mid new : Rehearsal) (step : Step) → IsLater old mid → new ≡ extended mid step →
     length old.steps < length new.steps
 steps_more old mid new step a e =
-    let more : length new.steps ≡ length mid.steps + 1 =
-    ap (λ (w : Rehearsal). length w.steps) e ∙ length-append mid.steps (step ∷ []) in
+    let more : length new.steps ≡ length mid.steps + 1 = ap (λ (w : Rehearsal). length w.steps) e ∙ length-append mid.steps (step ∷ []) in
     omega (arith, a.steps, more)
 
 pub ruleset left = (repeats, leaves_same)

@@ -74,8 +74,7 @@ record IsSoNamed (o : Option Envelope) (from : Option ℕ) (name : FullName) : T
 
 so_named : (o : Option Envelope) (from : Option ℕ) (name : FullName) → named (option_map without_value o) from ≡ Some name →
     IsSoNamed o from name
-so_named None None name e = some-none name e
-so_named None (Some p) name e = some-none name e
+so_named None from name e = some-none name e
 so_named (Some x) None name e = some-none name e
 so_named (Some x) (Some p) name e =
     let same : record { carried = carried_of (without_value x).wire; from = p } ≡ name = some-same _ name e in

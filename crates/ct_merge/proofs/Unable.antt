@@ -62,9 +62,8 @@ goes_to n (One to w) (suc i) p x e = some-none (letter p x) e
 goes_to n (All w) i p x e = carries-mail n (All w) x (get-wire (envelopes n (All w)) i (letter p x) e)
 
 pub goes_carries : (mail : Mail) (p : ℕ) (x : Wire) → GoesTo mail p x → Carries mail x
-goes_carries Nobody p x g = g
 goes_carries (One to w) p x g = g.1
-goes_carries (All w) p x g = g
+goes_carries _ p x g = g
 
 -- ---- why a step sends what it sends
 
@@ -121,8 +120,7 @@ module _ (n q : ℕ) (m : Member) (c : Standing) (open_at : m.current ≡ Some c
   turn_round : (a : Move) (t : Turn) → turn_at n q m a c ≡ Some t →
       ((t.after).round ≡ c.round) ⊎ (is_some (decided m.got m.last) ≡ false)
   turn_round Enter t h = inr (enter-is n q m.last (decided m.got m.last) c t h).undecided
-  turn_round (Choose from) t h =
-      inl (ap (λ (y : Turn). (y.after).round) (sym (choose-is n m.last (own_ballots m c) c from t h).gives))
+  turn_round (Choose from) t h = inl (ap (λ (y : Turn). (y.after).round) (sym (choose-is n m.last (own_ballots m c) c from t h).gives))
   turn_round Adopt t h = inl (ap (λ (y : Turn). (y.after).round) (sym (adopt-is n q m.last (own_ballots m c) c t h).gives))
   turn_round Suspect t h = inl (ap (λ (y : Turn). (y.after).round) (sym (suspect-is n q m.last (own_ballots m c) c t h).gives))
   turn_round Conclude t h = inl (ap (λ (y : Turn). (y.after).round) (sym (conclude-is n m.last (own_ballots m c) c t h).gives))
@@ -240,8 +238,7 @@ skips_on s g q step o =
 
 module _ (n q p : ℕ) (m o : Member) (a b : ℕ) (on : IsOn m o) (more : a ≤ b) (skips : Skipping m o) where
   round_on : (k r : ℕ) → SkipsRound m k r → SkipsRound o k r
-  round_on k r h =
-      record { first = h.first; round = h.round; decision = decision_on m o on k h.round h.decision; before = skips k r h }
+  round_on k r h = record { first = h.first; round = h.round; decision = decision_on m o on k h.round h.decision; before = skips k r h }
 
   skipped_on : (c : Carried) → IsSkipped n q m c → IsSkipped n q o c
   skipped_on (Data x i) h = h

@@ -44,14 +44,12 @@ told_at v c e = stopped_at v c (λ it. v ≡ verdict_at it) e e
 -- where logs are refused, nothing that begins with them has a merge
 pub refused_at : (s : Setting) (cells : ℕ) (logs : List (Vec LogLine)) (v : Verdict) (c : Culprit) → v ≡ verdict_at c →
     IsCulprit s cells logs c → IfRefused v (λ it. NeverMerges s logs)
-refused_at s cells logs v c e h =
-    by_reason (λ v. IfRefused v (λ it. NeverMerges s logs)) c v e tt tt (refused_none s cells logs c h)
+refused_at s cells logs v c e h = by_reason (λ v. IfRefused v (λ it. NeverMerges s logs)) c v e tt tt (refused_none s cells logs c h)
 
 -- a line that is refused by itself doesn't wait
 pub none_halted : (s : Setting) (logs : List (Vec LogLine)) (v : Verdict) (t : Taken) (f : OwnFault) → v ≡ verdict_at (halted_at t f) →
     IfStopped v (λ it. is_wait it.why ≡ true → HasNoMerge s logs)
-none_halted s logs v t f e =
-    stopped_at v (halted_at t f) (λ it. is_wait it.why ≡ true → HasNoMerge s logs) e (λ waits. absurd (cc))
+none_halted s logs v t f e = stopped_at v (halted_at t f) (λ it. is_wait it.why ≡ true → HasNoMerge s logs) e (λ waits. absurd (cc))
 
 -- logs of which each waits or is over have no merge, where one is not over
 pub none_waiting : (logs : List (Vec LogLine)) (v : Verdict) (t : Taken) (c culprit : Culprit) → v ≡ verdict_at c → IsLawful t.rehearsal →

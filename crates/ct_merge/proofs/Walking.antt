@@ -22,9 +22,9 @@ use Rattle.ct_merge.specs.Logs.{Moment, is_own, is_repeat, own}
 use Rattle.ct_merge.specs.Merging.{count_of}
 use Rattle.ct_merge.specs.Testing.{AreFrom, AreMet, AreTested, Fails, FailsBefore, GoesOnTo, IsFailing, IsTested, StaysTested, Walked}
 use Rattle.ct_merge.specs.declared.testing.Unmet.{Unmet}
-use Rattle.ct_merge.proofs.Advancing.{positive}
 use Rattle.ct_merge.proofs.Owning.{at, longer, own_joins, own_stays}
 use Rattle.ct_merge.proofs.Sameness.{below_or_not}
+use Rattle.ct_names.proofs.Groups.{member_from_one}
 
 -- ---- lists
 
@@ -232,7 +232,7 @@ passed_own old new step expected list is uncut next acts taken others same met a
           subst (λ l. IsTested w l new q) lists (subst (λ x. IsTested w list new x) (sym mine_is)
           (goes old new step next w (actor step) list on mine uncut taken met (ahead tested.ahead) tested))
       | inr ne ↦
-          let some : 1 ≤ q = positive w.setting.members q in_group in
+          let some : 1 ≤ q = member_from_one w.setting.members q in_group in
           stays old new step next w q (expected_of expected q) (not_own q (actor step) (is_repeat step) ne) (others q some ne)
           (same q some ne) (before q in_group)
     ]
