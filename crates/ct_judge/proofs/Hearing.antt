@@ -3,10 +3,10 @@ use Rattle.std.proofs.Common.{◌≡◌, ◌+◌, ◌<◌, ◌≤◌, ℕ, List,
 use Rattle.std.proofs.Common.{append_assoc, append-nil, length, length-append, take, drop, get_or, arith}
 use Rattle.std.proofs.lemmas.List.{at_drop_more, take-append-drop}
 use Rattle.std.proofs.Math.Seq.{take-append_seam}
-use Rattle.std.specs.Prelude.{IfSome, OnErr, Result, Ok, Err, ⊤}
+use Rattle.std.specs.Prelude.{OnErr, Result, Ok, Err, ⊤}
 use Rattle.std.specs.Io.KnownBytes.{Appends, Consumes, IsAtEnd}
 use Rattle.ct_streams.specs.Streams.{WritesPart}
-use Rattle.ct_judge.specs.Sessions.{Hearing, IsEnd, Says, SaysPart, Session, after_byte, after_bytes, at_end, heard_in, opening}
+use Rattle.ct_judge.specs.Sessions.{Hearing, SaysPart, Session, after_byte, after_bytes, at_end, opening}
 use Rattle.ct_judge.specs.Sessions.{said_at, said_by}
 use Rattle.ct_judge.specs.Sessions.{said_first, session}
 
@@ -58,9 +58,6 @@ pub record IsAnswering (old new : Option (List ℕ)) (waiting rest whole : List 
   pub is : whole ≡ written ++ (waiting ++ rest)
   pub wrote : Appends old new written
 
-pub answers_none : (old : Option (List ℕ)) (whole : List ℕ) → IsAnswering old old [] whole whole
-answers_none old whole = record { written = []; is = refl; wrote = wrote_nothing old }
-
 pub answers_byte : (old new : Option (List ℕ)) (t next : Hearing) (waiting more bytes whole : List ℕ) (i : ℕ) → i < length bytes →
     next ≡ after_byte t (get_or bytes i 0) → more ≡ waiting ++ said_at t (get_or bytes i 0) →
     IsAnswering old new waiting (said_by t (drop i bytes)) whole → IsAnswering old new more (said_by next (drop (i + 1) bytes)) whole
@@ -89,13 +86,6 @@ answers_written old mid new waiting rest whole h a = record {
   is = h.is ∙ sym (append_assoc h.written waiting rest);
   wrote = appends_more old mid new h.written waiting h.wrote a;
 }
-
-pub answers_all : (old mid new : Option (List ℕ)) (waiting rest whole : List ℕ) → IsAnswering old mid waiting rest whole → rest ≡ [] →
-    Appends mid new waiting → Appends old new whole
-answers_all old mid new waiting rest whole h none a =
-    let all : whole ≡ h.written ++ waiting = h.is ∙ ap (λ l. h.written ++ (waiting ++ l)) none
-    ∙ ap (λ l. h.written ++ l) (append-nil waiting) in
-    subst (Appends old new) (sym all) (appends_more old mid new h.written waiting h.wrote a)
 
 pub answers_part : (old mid new : Option (List ℕ)) (waiting rest whole : List ℕ) → IsAnswering old mid waiting rest whole →
     WritesPart mid new waiting → WritesPart old new whole
@@ -202,33 +192,12 @@ breaks_off (Some input) None t said old new h a = absurd h
 breaks_off (Some input) (Some rest) t said old new h a =
     part_only old new said (session t rest).text (session opening input).text a (ap (λ (v : Session). v.text) h)
 
-pub unended : (input left : Option (List ℕ)) (reads : ℕ) → HasGiven input left reads → IfSome input (λ bytes. reads ≤ length bytes)
-unended None left reads h = tt
-unended (Some input) None reads h = absurd h
-unended (Some input) (Some rest) reads h = omega arith
-
 -- ---- the end
 
 pub is_at_end : (left next : Option (List ℕ)) → Consumes left next [] → IsAtEnd next → IsAtEnd left
 is_at_end None next c e = tt
 is_at_end (Some bytes) None c e = absurd c
 is_at_end (Some bytes) (Some rest) c e = c ∙ e
-
-pub ends_hearing : (input left : Option (List ℕ)) (t : Hearing) (said : List ℕ) (s : Hearing) → IsAtEnd left → IsHeard input left t said →
-    s ≡ (at_end t t.line).hearing → IsEnd input (heard_in s)
-ends_hearing None left t said s e h is = tt
-ends_hearing (Some bytes) None t said s e h is = absurd h
-ends_hearing (Some bytes) (Some rest) t said s e h is =
-    ap heard_in (is ∙ sym (ap (λ (v : Session). v.hearing) (h ∙ ap (λ l. said_first said (session t l)) e)))
-
-pub ends_text : (input left : Option (List ℕ)) (t : Hearing) (said : List ℕ) (old mid new : Option (List ℕ)) → IsAtEnd left →
-    IsHeard input left t said → Appends old mid said → Appends mid new (at_end t t.line).text → Says input old new
-ends_text None left t said old mid new e h first then = tt
-ends_text (Some bytes) None t said old mid new e h first then = absurd h
-ends_text (Some bytes) (Some rest) t said old mid new e h first then =
-    let all : (session opening bytes).text ≡ said ++ (at_end t t.line).text =
-    ap (λ (v : Session). v.text) (h ∙ ap (λ l. said_first said (session t l)) e) in
-    subst (Appends old new) (sym all) (appends_more old mid new said (at_end t t.line).text first then)
 
 pub ends_part : (input left : Option (List ℕ)) (t : Hearing) (said : List ℕ) (old mid new : Option (List ℕ)) → IsAtEnd left →
     IsHeard input left t said → Appends old mid said → WritesPart mid new (at_end t t.line).text → SaysPart input old new

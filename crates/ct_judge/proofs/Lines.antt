@@ -14,7 +14,7 @@ use Rattle.ct_judge.specs.Schedule.{or_stay}
 use Rattle.ct_judging.specs.Standing.{world_of}
 use Rattle.ct_judge.specs.declared.recording.TheConstants.{MAX_LEN}
 use Rattle.ct_judge.specs.declared.record_fault.RecordFault.{RecordFault}
-use Rattle.ct_judge.specs.declared.record_fault.RecordFault.TheVariants.{Line, TooLong, Read, Write, Memory, Board}
+use Rattle.ct_judge.specs.declared.record_fault.RecordFault.TheVariants.{Line, Read, Write}
 
 stop_on : {A B : Type 0} (r : Result A Stopped) (f : A → Result B Stopped) (e : Stopped) → r ≡ Err e → go_on r f ≡ Err e
 stop_on (Ok x) f e h = absurd (cc)
@@ -26,11 +26,9 @@ stop_on (Err other) f e h =
 pub stop_fault : {A B : Type 0} (r : Result A Stopped) (f : A → Result B Stopped) (fault : RecordFault) → IsFaultIn r fault →
     IsFaultIn (go_on r f) fault
 stop_fault r f (Line at fault text) h = stop_on r f (record { at = at; fault = fault; text = string_bytes text }) h
-stop_fault r f TooLong h = tt
 stop_fault r f Read h = h
 stop_fault r f Write h = h
-stop_fault r f Memory h = tt
-stop_fault r f Board h = tt
+stop_fault r f _ h = tt
 
 finish_on : (r : Result Progress Stopped) (e : Stopped) → r ≡ Err e → finished r ≡ Err e
 finish_on (Ok x) e h = absurd (cc)
@@ -40,11 +38,9 @@ finish_on (Err other) e h =
 
 pub finish_fault : (r : Result Progress Stopped) (fault : RecordFault) → IsFaultIn r fault → IsFaultIn (finished r) fault
 finish_fault r (Line at fault text) h = finish_on r (record { at = at; fault = fault; text = string_bytes text }) h
-finish_fault r TooLong h = tt
 finish_fault r Read h = h
 finish_fault r Write h = h
-finish_fault r Memory h = tt
-finish_fault r Board h = tt
+finish_fault r _ h = tt
 
 -- ---- one line more
 
@@ -62,8 +58,7 @@ module _ (t : Progress) (text : List ℕ) where
       (stop_fault (after_line t (take i text)) (λ v. after_lines v (lines_of (drop (i + 1) text))) fault h)
 
   pub last_on : (u : Progress) → position is_feed text ≡ None → after_line t text ≡ Ok u → after_lines t (lines_of text) ≡ Ok u
-  last_on u at h =
-      ap (after_lines t) (only_line text at) ∙ ap (λ (r : Result Progress Stopped). go_on r (λ v. Ok v)) h
+  last_on u at h = ap (after_lines t) (only_line text at) ∙ ap (λ (r : Result Progress Stopped). go_on r (λ v. Ok v)) h
 
   pub last_fault : (fault : RecordFault) → position is_feed text ≡ None → IsFaultIn (after_line t text) fault →
       IsFaultIn (after_lines t (lines_of text)) fault
@@ -94,11 +89,7 @@ module _ (t : Progress) (text : List ℕ) where
       IsFaultIn (after_line t line) fault → IsLeftAt t then fault → IsLeftAt (before_fault t (lines_of text)) then fault
   stays_at lines line then (Line at fault words) cut h left =
       left ∙ sym (ap (before_fault t) cut ∙ ap (λ (r : Result Progress Stopped). or_stay t r (λ v. before_fault v lines)) h)
-  stays_at lines line then TooLong cut h left = tt
-  stays_at lines line then Read cut h left = tt
-  stays_at lines line then Write cut h left = tt
-  stays_at lines line then Memory cut h left = tt
-  stays_at lines line then Board cut h left = tt
+  stays_at lines line then _ cut h left = tt
 
   pub left_at : (then : Progress) (fault : RecordFault) (i : ℕ) → position is_feed text ≡ Some i →
       IsFaultIn (after_line t (take i text)) fault → IsLeftAt t then fault → IsLeftAt (before_fault t (lines_of text)) then fault
@@ -121,11 +112,7 @@ fault_end r u fault is h = subst (λ (v : Result Progress Stopped). IsFaultIn (f
 
 pub left_here : (here t : Progress) (fault : RecordFault) → IsLeftAt here t fault → IsOfLine fault → t ≡ here
 left_here here t (Line at fault words) left of = left
-left_here here t TooLong left of = absurd of
-left_here here t Read left of = absurd of
-left_here here t Write left of = absurd of
-left_here here t Memory left of = absurd of
-left_here here t Board left of = absurd of
+left_here here t _ left of = absurd of
 
 pub told_here : (lines : List (List ℕ)) (t u : Progress) → after_lines t lines ≡ Ok u → u ≡ before_fault t lines
 told_here lines t u h = sym (all_taken lines t u h)
