@@ -1,16 +1,13 @@
 -- What one more step of a list comes to.
 use Rattle.std.proofs.Common.{◌≡◌, inl, inr, ℕ, ◌+◌, Bool, true, false, not, ◌&&◌, List, [], ◌∷◌, ◌++◌, length, Option, Some, None, refl}
-use Rattle.std.proofs.Common.{sym, ap, ◌∙◌, append_assoc, append-nil, add-zero, add_assoc, arith}
+use Rattle.std.proofs.Common.{sym, ◌∙◌, append_assoc, append-nil, add-zero, add_assoc, arith}
 use Rattle.std.specs.Prelude.{is_none, unwrap_or, option_and_then, if◌then◌else◌}
-use Rattle.std.specs.Option.{option_map_or}
 use Rattle.std.proofs.lemmas.List.{length_push}
 use Rattle.ct_names.specs.declared.refusal.Refusal.{Refusal}
 use Rattle.ct_names.specs.declared.refusal.Refusal.TheVariants.{OutOfMemory}
 use Rattle.ct_model.specs.declared.step.Step.{Step}
-use Rattle.ct_model.specs.declared.step.Step.TheVariants.{Enter, Choose, Adopt, Suspect, Conclude, Deliver}
 use Rattle.ct_model.specs.Setting.{Setting}
 use Rattle.ct_model.specs.State.{State, Member, member}
-use Rattle.ct_model.specs.AtValue.{Standing}
 use Rattle.ct_model.specs.Test.{Test, first_fault}
 use Rattle.ct_model.specs.Actor.{actor}
 use Rattle.ct_model.specs.Next.{next}
@@ -18,7 +15,7 @@ use Rattle.ct_model.specs.Rehearsal.{Rehearsal, extended, state_of, line_of}
 use Rattle.ct_model.specs.Cause.{cause, limit, limits, or_else, presence, tests}
 use Rattle.ct_model.specs.Passed.{extended_by, passed}
 use Rattle.ct_model.proofs.Record.Passed.{passed-snoc}
-use Rattle.ct_model.proofs.Basics.Tests.{and_left, and_right, true_not}
+use Rattle.ct_model.proofs.Basics.Tests.{true_not}
 use Rattle.ct_world.specs.Posting.{IsRefusal}
 use Rattle.ct_world.specs.World.{WorldView}
 use Rattle.ct_rehearse.specs.Shares.{Held, risen_by}
@@ -41,33 +38,14 @@ are_causes (test ∷ rest) = not (is_short test.refusal) && are_causes rest
 fault-cause : (list : List Test) → are_causes list ≡ true → is_cause (first_fault list) ≡ true
 unfolding is_cause are_causes
 fault-cause [] h = refl
-fault-cause (test ∷ rest) h = go test.fires (and_left (not (is_short test.refusal)) (are_causes rest) h)
-    (fault-cause rest (and_right (not (is_short test.refusal)) (are_causes rest) h))
-  where
-    go : (b : Bool) → not (is_short test.refusal) ≡ true → is_cause (first_fault rest) ≡ true →
-        is_cause (if b then Some test.refusal else first_fault rest) ≡ true
-    go true here later = here
-    go false here later = later
+fault-cause (test ∷ rest) h = grind (arith, fault-cause rest)
 
 or_else-cause : (o rest : Option Refusal) → is_cause o ≡ true → is_cause rest ≡ true → is_cause (or_else o rest) ≡ true
-or_else-cause None rest h k = k
-or_else-cause (Some refusal) rest h k = h
-
-open-causes : (current : Option Standing) (rest : Standing → List Test) → ((c : Standing) → are_causes (rest c) ≡ true) →
-    are_causes (option_map_or rest current []) ≡ true
-unfolding are_causes
-open-causes None rest h = refl
-open-causes (Some c) rest h = h c
+or_else-cause o rest h k = grind arith
 
 own-causes : (s : Setting) (g : State) (m : Member) (line : List ℕ) (step : Step) → are_causes (tests s g m line step) ≡ true
 unfolding are_causes
-own-causes s g m line (Enter p) = open-causes m.current _ (λ c. refl)
-own-causes s g m line (Choose p from) = open-causes m.current _ (λ c. refl)
-own-causes s g m line (Adopt p) = open-causes m.current _ (λ c. refl)
-own-causes s g m line (Suspect p) = open-causes m.current _ (λ c. refl)
-own-causes s g m line (Conclude p) = open-causes m.current _ (λ c. refl)
-own-causes s g m line (Deliver p) = open-causes m.current _ (λ c. refl)
-own-causes s g m line _ = refl
+own-causes s g m line step = grind arith
 
 and_then-cause : (o : Option State) (f : State → Option Refusal) → ((g : State) → is_cause (f g) ≡ true) →
     is_cause (option_and_then f o) ≡ true
@@ -107,8 +85,7 @@ unfolding marked
 marked-snoc [] [] mark step h = refl
 marked-snoc [] (s ∷ steps) mark step h = cc
 marked-snoc (b ∷ marks) [] mark step h = cc
-marked-snoc (true ∷ marks) (s ∷ steps) mark step h = ap (λ list. s ∷ list) (marked-snoc marks steps mark step (omega arith))
-marked-snoc (false ∷ marks) (s ∷ steps) mark step h = marked-snoc marks steps mark step (omega arith)
+marked-snoc (b ∷ marks) (s ∷ steps) mark step h = grind (arith, marked-snoc marks steps mark step (omega arith))
 
 unmarked-snoc : (w : Rehearsal) (marks : List Bool) (steps : List Step) (mark : Bool) (step : Step) → length marks ≡ length steps →
     allowed_unmarked w (marks ++ mark ∷ []) (steps ++ step ∷ []) ≡ allowed_unmarked w marks steps
@@ -199,24 +176,14 @@ played-stepped old had tried new has p step free h = record {
 played-refused : (old : WorldView) (had : Held) (tried : List Step) (new : WorldView) (has : Held) (p : Played) (step : Step)
     (refusal : Refusal) → is_none (cause new.rehearsal step) ≡ is_short refusal → IsPlayed old had tried new has p
     → IsPlayed old had (tried ++ step ∷ []) (record new { prepared = None }) has (played_after p (Refused refusal))
-played-refused old had tried new has p step refusal e h = go (is_short refusal) e
-  where
-    go : (b : Bool) → is_none (cause new.rehearsal step) ≡ b →
-        IsPlayed old had (tried ++ step ∷ []) (record new { prepared = None }) has
-        (if b then record p { short = p.short + 1 } else record p { refused = p.refused + 1 })
-    go true e = record {
-      total = omega (arith, length_push tried step, h.total);
-      share = h.share;
+played-refused old had tried new has p step refusal e h =
+    let q : Played = played_after p (Refused refusal) in
+    record {
+      total = grind (arith, length_push tried step, h.total);
+      share = grind (arith, h.share);
       prepared = sym (prepared-snoc old.prepared tried step);
-      all = λ none. absurd (omega (arith, none));
-      some = has-left old.rehearsal tried new.rehearsal p (record p { short = p.short + 1 }) step refl (rw e refl) h.some;
-    }
-    go false e = record {
-      total = omega (arith, length_push tried step, h.total);
-      share = h.share;
-      prepared = sym (prepared-snoc old.prepared tried step);
-      all = λ none. passed-left old.rehearsal tried new.rehearsal step e (h.all none);
-      some = has-left old.rehearsal tried new.rehearsal p (record p { refused = p.refused + 1 }) step refl (rw (e, add-zero) refl) h.some;
+      all = grind (arith, h.all, passed-left old.rehearsal tried new.rehearsal step);
+      some = has-left old.rehearsal tried new.rehearsal p q step (grind arith) (grind arith) h.some;
     }
 
 -- one more step was tried
