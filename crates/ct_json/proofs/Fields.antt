@@ -88,14 +88,6 @@ pub then_closed : {T E : Type 0} (r : Result T E) (fields : List Field) (old mid
 then_closed (Ok x) fields old mid end h e = rw (e, h, object_closed fields, append_assoc) refl
 then_closed (Err x) fields old mid end h e = tt
 
--- and a line feed behind it
-pub then_ended : {T E : Type 0} (r : Result T E) (fields : List Field) (old mid end : List ℕ) → mid ≡ old ++ opened fields →
-    end ≡ (if is_ok r then mid ++ codes "}\n" else mid) → OnOk r (end ≡ old ++ line_text (object_of fields))
-then_ended (Ok x) fields old mid end h e =
-    e ∙ ap (λ t. t ++ codes "}\n") h ∙ append_assoc old (opened fields) (codes "}\n")
-    ∙ ap (λ t. old ++ t) (sym (ap (λ t. t ++ codes "\n") (object_closed fields) ∙ append_assoc (opened fields) (codes "}") (codes "\n")))
-then_ended (Err x) fields old mid end h e = tt
-
 -- ---- pieces that a search puts together
 
 pub opened_after : (old : List ℕ) (some more : List Field) → is_any some ≡ true →

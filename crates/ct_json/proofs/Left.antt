@@ -1,5 +1,5 @@
 -- Arrays that are written value by value: what is left of one while its first values stand there.
-use Rattle.std.proofs.Common.{◌≡◌, ℕ, zero, suc, ◌+◌, ◌-◌, ◌<◌, ◌≤◌, Bool, true, false, List, [], ◌∷◌, ◌++◌, Result, Ok, Err, refl, ap, sym}
+use Rattle.std.proofs.Common.{◌≡◌, ℕ, suc, ◌+◌, ◌-◌, ◌<◌, ◌≤◌, Bool, true, false, List, [], ◌∷◌, ◌++◌, Result, Ok, Err, refl, ap, sym}
 use Rattle.std.proofs.Common.{◌∙◌}
 use Rattle.std.proofs.Common.{append_assoc, append-nil, arith, length, get_or, add-one, drop, map}
 use Rattle.std.specs.Prelude.{OnOk, codes, flat_map, is_ok, if◌then◌else◌}
@@ -9,6 +9,9 @@ use Rattle.serde_json.specs.Data.{Data}
 use Rattle.serde_json.specs.Written.{comma_if, compact_text, items_text}
 use Rattle.ct_names.specs.Group.{counting}
 use Rattle.ct_json.specs.Fields.{array_of, fields_text, items_of}
+use Rattle.ct_names.specs.declared.command.Command.TheVariants.{Set}
+use Rattle.ct_model.specs.declared.step.Step.{Step}
+use Rattle.ct_model.specs.declared.step.Step.TheVariants.{Submit}
 
 -- the text becomes the whole one by these values, and the bracket that closes the array
 pub record IsLeft (values : List Data) (later : Bool) (now whole : List ℕ) : Type 0 where
@@ -29,7 +32,7 @@ field_left key head values all old now begins e same = record {
       ∙ ap (λ t. quoted key ++ 58 ∷ 91 ∷ t) (sym (append-nil (items_text false (items_of all))))));
 }
 
-pub left_none : {T E : Type 0} (r : Result T E) (values : List Data) (now end whole : List ℕ) (later : Bool) →
+left_none : {T E : Type 0} (r : Result T E) (values : List Data) (now end whole : List ℕ) (later : Bool) →
     IsLeft values later now whole → values ≡ [] → end ≡ (if is_ok r then now ++ codes "]" else now) → OnOk r (end ≡ whole)
 left_none (Ok x) values now end whole later h none e = e ∙ ap (λ vs. now ++ items_text later (items_of vs)) (sym none) ∙ h.is
 left_none (Err x) values now end whole later h none e = tt
@@ -59,6 +62,16 @@ module _ {A : Type 0} (before after : List A) (x : A) (split : before ≡ x ∷ 
       let same : flat_map f before ≡ flat_map f after = ap (flat_map f) split ∙ ap (λ t. t ++ flat_map f after) is in
       record { is = ap (λ vs. now ++ items_text later (items_of vs)) (sym same) ∙ h.is }
 
+-- where none is left
+module _ {T E A : Type 0} (r : Result T E) (xs : List A) (none : xs ≡ []) (now end whole : List ℕ) (later : Bool) where
+  pub map_end : (f : A → Data) → IsLeft (map f xs) later now whole → end ≡ (if is_ok r then now ++ codes "]" else now) →
+      OnOk r (end ≡ whole)
+  map_end f h e = left_none r (map f xs) now end whole later h (ap (map f) none) e
+
+  pub flat_end : (f : A → List Data) → IsLeft (flat_map f xs) later now whole → end ≡ (if is_ok r then now ++ codes "]" else now) →
+      OnOk r (end ≡ whole)
+  flat_end f h e = left_none r (flat_map f xs) now end whole later h (ap (flat_map f) none) e
+
 -- ---- what is left of numbers, and of a list
 
 pub counting_all : (first n : ℕ) → counting first (n - 0) ≡ counting first n
@@ -76,8 +89,9 @@ drop_or xs i d h = rw add-one (drop-cons xs i d h)
 pub drop_next : {A : Type 0} (xs : List A) (i : ℕ) (x : A) → i < length xs → x ≡ get_or xs i x → drop i xs ≡ x ∷ drop (i + 1) xs
 drop_next xs i x h is = drop_or xs i x h ∙ ap (λ y. y ∷ drop (i + 1) xs) (sym is)
 
-pub drop_none : {A : Type 0} (xs : List A) (i : ℕ) → length xs ≤ i → drop i xs ≡ []
-drop_none [] zero h = refl
-drop_none [] (suc i) h = refl
-drop_none (x ∷ xs) zero h = absurd (omega arith)
-drop_none (x ∷ xs) (suc i) h = drop_none xs i (omega arith)
+-- the first of the steps that are left
+abbrev pub first_step : List Step → ℕ → Step
+first_step steps i = get_or steps i (Submit 0 (Set 0 0))
+
+pub steps_next : (steps : List Step) (i : ℕ) → i < length steps → drop i steps ≡ first_step steps i ∷ drop (i + 1) steps
+steps_next steps i h = drop_or steps i (Submit 0 (Set 0 0)) h

@@ -4,19 +4,17 @@ use Rattle.std.proofs.Common.{◌∙◌, append_assoc, append-nil, arith}
 use Rattle.json.proofs.OnLiterals.{json_on_literals}
 use Rattle.serde_json.specs.Written.{compact_text}
 use Rattle.ct_names.specs.declared.command.Command.{Command}
-use Rattle.ct_names.specs.declared.command.Command.TheVariants.{Set, Add, Copy}
-use Rattle.ct_names.specs.declared.limit.Limit.{Limit}
-use Rattle.ct_names.specs.declared.limit.Limit.TheVariants.{Submissions, Instances, Rounds, Envelopes, Cells, Steps}
+use Rattle.ct_names.specs.declared.command.Command.TheVariants.{Set}
+use Rattle.ct_names.specs.declared.limit.Limit.TheVariants.{Submissions}
 use Rattle.ct_names.specs.declared.refusal.Refusal.{Refusal}
 use Rattle.ct_names.specs.declared.refusal.Refusal.TheVariants.{Full}
 use Rattle.ct_names.specs.Message.{Message}
 use Rattle.ct_names.specs.MessageText.{message_text}
 use Rattle.ct_names.specs.RefusalText.{refusal_text}
 use Rattle.ct_model.specs.declared.phase.Phase.{Phase}
-use Rattle.ct_model.specs.declared.phase.Phase.TheVariants.{Rest, Gather, Wait, Tally}
+use Rattle.ct_model.specs.declared.phase.Phase.TheVariants.{Rest}
 use Rattle.ct_model.specs.declared.step.Step.{Step}
-use Rattle.ct_model.specs.declared.step.Step.TheVariants.{Submit, Receive, Begin, Enter, Choose, Adopt, Suspect, Conclude, Deliver}
-use Rattle.ct_model.specs.declared.step.Step.TheVariants.{Follow, Crash, Postpone, Lose, Repeat}
+use Rattle.ct_model.specs.declared.step.Step.TheVariants.{Submit, Suspect}
 use Rattle.ct_model.specs.StepText.{command_text, step_entry, step_text}
 use Rattle.ct_records.specs.Values.{command_data, step_data}
 use Rattle.ct_show.specs.State.{next_between}
@@ -39,22 +37,11 @@ name_plain _ = refl
 pub phase_plain : (phase : Phase) → IsPlain (phase_text phase)
 unfolding json_on_literals
 phase_plain Rest = refl
-phase_plain Gather = refl
-phase_plain Wait = refl
-phase_plain Tally = refl
-
-limit_plain : (limit : Limit) → IsPlain (refusal_text (Full limit))
-unfolding json_on_literals
-limit_plain Submissions = refl
-limit_plain Instances = refl
-limit_plain Rounds = refl
-limit_plain Envelopes = refl
-limit_plain Cells = refl
-limit_plain Steps = refl
+phase_plain _ = refl
 
 pub refusal_plain : (refusal : Refusal) → IsPlain (refusal_text refusal)
 unfolding json_on_literals
-refusal_plain (Full limit) = limit_plain limit
+refusal_plain (Full Submissions) = refl
 refusal_plain _ = refl
 
 -- ---- steps, as a record has them
@@ -62,25 +49,12 @@ refusal_plain _ = refl
 command_same : (c : Command) → command_text c ≡ compact_text (command_data c)
 unfolding command_text json_on_literals
 command_same (Set register n) = refl
-command_same (Add register n) = refl
-command_same (Copy from to) = refl
+command_same _ = refl
 
 pub step_same : (s : Step) → step_text s ≡ compact_text (step_data s)
 unfolding step_text json_on_literals
 step_same (Submit p c) = ap (λ t. codes "[\"submit\"," ++ (decimal p ++ (codes "," ++ (t ++ codes "]")))) (command_same c)
-step_same (Receive p k) = refl
-step_same (Begin p) = refl
-step_same (Enter p) = refl
-step_same (Choose p from) = refl
-step_same (Adopt p) = refl
-step_same (Suspect p) = refl
-step_same (Conclude p) = refl
-step_same (Deliver p) = refl
-step_same (Follow p) = refl
-step_same (Crash p) = refl
-step_same (Postpone p k) = refl
-step_same (Lose p k) = refl
-step_same (Repeat p k) = refl
+step_same _ = refl
 
 one_next : (step : Step) → codes "[" ++ (step_text step ++ ([] ++ codes "]")) ≡ compact_text (array_by step_data (step ∷ []))
 one_next step = rw (step_same step) refl

@@ -24,8 +24,7 @@ both_self (x ∷ xs) ys h k = (h.0, both_self xs ys h.1 k)
 -- nothing is escaped
 escaped_self : (xs : List ℕ) → AreSelf xs → escape xs ≡ xs
 escaped_self [] h = refl
-escaped_self (x ∷ xs) h =
-    rw (escape_byte_plain x h.0.no_quote h.0.no_backslash h.0.no_control, escaped_self xs h.1) refl
+escaped_self (x ∷ xs) h = rw (escape_byte_plain x h.0.no_quote h.0.no_backslash h.0.no_control, escaped_self xs h.1) refl
 
 pub quoted_self : (xs : List ℕ) → AreSelf xs → quoted xs ≡ 34 ∷ (xs ++ 34 ∷ [])
 quoted_self xs h = ap (λ t. 34 ∷ (t ++ 34 ∷ [])) (escaped_self xs h)

@@ -1,10 +1,10 @@
-use Rattle.std.proofs.Common.{◌≡◌, ◌+◌, ◌-◌, ◌<◌, ◌≤◌, ap, ap₂, arith, length, map, refl}
+use Rattle.std.proofs.Common.{◌≡◌, ◌+◌, ◌-◌, ◌<◌, ap₂, arith, length, map, refl}
 use Rattle.std.specs.Prelude.{codes, string_bytes}
 use Rattle.json.proofs.OnLiterals.{json_on_literals}
 use Rattle.ct_names.specs.Group.{counting}
 use Rattle.ct_model.specs.Rehearsal.{state_of}
 use Rattle.ct_json.specs.JsonEnvelopes.{envelope_value, sent_fields}
-use Rattle.ct_json.proofs.Left.{counting_next, counting_none, field_left, left_none, map_one}
+use Rattle.ct_json.proofs.Left.{counting_next, counting_none, field_left, map_one, map_end}
 use Rattle.ct_json.proofs.json_envelopes.push_sent_at.Goals as goal
 
 pub loop-i-init : goal.loop-i-init
@@ -32,9 +32,7 @@ loop-i-preserved c =
 pub returns : goal.returns
 returns c =
     let w = c.args.world.now.rehearsal in
-    let before = c.args.before in
     let i = c.loop-i.i in
-    let count = length (state_of w).sent - before in
-    let all : count ≤ i = omega arith in
-    left_none c.push_str-2.result _ _ _ _ _ c.loop-i.invariant
-    (ap (map (envelope_value w)) (counting_none (before + i + 1) count i all)) c.push_str-2.ensures.bytes
+    let count = length (state_of w).sent - c.args.before in
+    map_end c.push_str-2.result _ (counting_none (c.args.before + i + 1) count i (omega arith)) _ _ _ _ (envelope_value w)
+    c.loop-i.invariant c.push_str-2.ensures.bytes

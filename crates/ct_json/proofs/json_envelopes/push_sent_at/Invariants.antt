@@ -1,4 +1,4 @@
-use Rattle.std.proofs.Common.{◌+◌, ◌-◌, ◌++◌, ◌∷◌, [], length, map}
+use Rattle.std.proofs.Common.{◌+◌, ◌-◌, ◌++◌, length, map}
 use Rattle.std.specs.Prelude.{string_bytes}
 use Rattle.ct_names.specs.Group.{counting}
 use Rattle.ct_model.specs.Rehearsal.{state_of}

@@ -1,9 +1,9 @@
-use Rattle.std.proofs.Common.{◌+◌, ◌<◌, ◌≤◌, ap, arith, refl, sym}
+use Rattle.std.proofs.Common.{◌+◌, ◌<◌, ap, arith, refl, sym}
 use Rattle.std.specs.Prelude.{codes, flat_map, string_bytes}
 use Rattle.json.proofs.OnLiterals.{json_on_literals}
 use Rattle.ct_names.specs.Group.{counting, members}
 use Rattle.ct_json.specs.JsonParts.{heard_fields, heard_if, heard_values}
-use Rattle.ct_json.proofs.Left.{counting_all, counting_next, counting_none, field_left, flat_none, flat_one, left_none}
+use Rattle.ct_json.proofs.Left.{counting_all, counting_next, counting_none, field_left, flat_none, flat_one, flat_end}
 use Rattle.ct_json.proofs.json_parts.push_all_heard.Goals as goal
 use Rattle.ct_json.proofs.json_parts.push_all_heard.Goals.{in-Some+in_ok-push_separator+in_ok-push_heard, in_default}
 
@@ -34,7 +34,5 @@ loop-i-preserved c =
 pub returns : goal.returns
 returns c =
     let w = c.args.world.now.rehearsal in
-    let i = c.loop-i.i in
-    let all : w.setting.members ≤ i = omega arith in
-    left_none c.push_str-2.result _ _ _ _ _ c.loop-i.invariant
-    (ap (flat_map (heard_values w c.args.member)) (counting_none (i + 1) w.setting.members i all)) c.push_str-2.ensures.bytes
+    flat_end c.push_str-2.result _ (counting_none (c.loop-i.i + 1) w.setting.members c.loop-i.i (omega arith)) _ _ _ _
+    (heard_values w c.args.member) c.loop-i.invariant c.push_str-2.ensures.bytes

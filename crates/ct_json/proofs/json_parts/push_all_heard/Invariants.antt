@@ -1,4 +1,4 @@
-use Rattle.std.proofs.Common.{◌+◌, ◌-◌, ◌++◌, ◌∷◌, []}
+use Rattle.std.proofs.Common.{◌+◌, ◌-◌, ◌++◌}
 use Rattle.std.specs.Prelude.{flat_map, string_bytes}
 use Rattle.ct_names.specs.Group.{counting}
 use Rattle.ct_json.specs.Fields.{fields_text}

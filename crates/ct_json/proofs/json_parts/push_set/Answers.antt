@@ -1,9 +1,9 @@
-use Rattle.std.proofs.Common.{◌+◌, ◌∷◌, [], ◌≤◌, ap, arith, cond, refl, sym, ◌∙◌}
+use Rattle.std.proofs.Common.{◌+◌, ◌∷◌, [], ap, arith, cond, refl, sym, ◌∙◌}
 use Rattle.std.specs.Prelude.{flat_map, string_bytes}
 use Rattle.ct_names.specs.Group.{counting, members}
 use Rattle.ct_records.specs.Values.{num}
 use Rattle.ct_json.specs.JsonParts.{set_value, set_values}
-use Rattle.ct_json.proofs.Left.{array_left, counting_next, counting_none, flat_none, flat_one, left_none}
+use Rattle.ct_json.proofs.Left.{array_left, counting_next, counting_none, flat_none, flat_one, flat_end}
 use Rattle.ct_json.proofs.json_parts.push_set.Goals as goal
 use Rattle.ct_json.proofs.json_parts.push_set.Goals.{then-contains+in_ok-push_separator+in_ok-write, else-contains}
 
@@ -29,7 +29,5 @@ loop-i-preserved c =
 
 pub returns : goal.returns
 returns c =
-    let i = c.loop-i.i in
-    let all : 16 ≤ i = omega arith in
-    left_none c.push_str-2.result _ _ _ _ _ c.loop-i.invariant
-    (ap (flat_map (set_values c.args.set)) (counting_none (i + 1) 16 i all)) c.push_str-2.ensures.bytes
+    flat_end c.push_str-2.result _ (counting_none (c.loop-i.i + 1) 16 c.loop-i.i (omega arith)) _ _ _ _ (set_values c.args.set)
+    c.loop-i.invariant c.push_str-2.ensures.bytes

@@ -1,19 +1,13 @@
-use Rattle.std.proofs.Common.{◌≡◌, ◌+◌, ◌++◌, ◌∷◌, ap, drop, get_or, refl, sym, ◌∙◌}
+use Rattle.std.proofs.Common.{◌+◌, ◌++◌, ap, refl, sym, ◌∙◌}
 use Rattle.std.specs.Prelude.{codes, flat_map, string_bytes}
 use Rattle.json.proofs.OnLiterals.{json_on_literals}
-use Rattle.ct_names.specs.declared.command.Command.TheVariants.{Set}
-use Rattle.ct_model.specs.declared.step.Step.{Step}
-use Rattle.ct_model.specs.declared.step.Step.TheVariants.{Submit}
 use Rattle.ct_records.specs.Values.{step_data}
 use Rattle.ct_json.specs.JsonState.{enabled_fields, enabled_values}
-use Rattle.ct_json.proofs.Left.{drop_none, drop_or, field_left, flat_none, flat_one, left_none}
+use Rattle.ct_json.proofs.Left.{field_left, flat_none, flat_one, first_step, flat_end, steps_next}
 use Rattle.ct_json.proofs.Texts.{step_same}
 use Rattle.ct_json.proofs.json_state.push_enabled.Goals as goal
 use Rattle.ct_json.proofs.json_state.push_enabled.Goals.{then-is_enabled+in_ok-push_separator+in_ok-write, else-is_enabled}
-
--- what a place past the end of the list would hold
-abbrev no_step : Step
-no_step = Submit 0 (Set 0 0)
+use Rattle.std.proofs.lemmas.List.{drop_all}
 
 pub loop-step-init : goal.loop-step-init
 unfolding enabled_fields json_on_literals
@@ -26,8 +20,8 @@ loop-step-preserved c =
     let f = enabled_values c.args.world.now.rehearsal in
     let xs = c.args.steps.now in
     let i = c.loop-step.step-index in
-    let x = get_or xs i no_step in
-    let split : drop i xs ≡ x ∷ drop (i + 1) xs = drop_or xs i no_step c.loop-step-test.true in
+    let x = first_step xs i in
+    let split = steps_next xs i c.loop-step-test.true in
     elim c.if-is_enabled.branch [
       | then-is_enabled+in_ok-push_separator+in_ok-write b ↦
           rw (b.text-is, b.later-is) (flat_one _ _ x split _ _ _ f (step_data x) _ _ c.loop-step.invariant
@@ -40,6 +34,5 @@ loop-step-preserved c =
 
 pub returns : goal.returns
 returns c =
-    left_none c.push_str-2.result _ _ _ _ _ c.loop-step.invariant
-    (ap (flat_map (enabled_values c.args.world.now.rehearsal)) (drop_none c.args.steps.now c.loop-step.step-index c.loop-step-test.false))
-    c.push_str-2.ensures.bytes
+    flat_end c.push_str-2.result _ (drop_all c.loop-step.step-index c.args.steps.now c.loop-step-test.false) _ _ _ _
+    (enabled_values c.args.world.now.rehearsal) c.loop-step.invariant c.push_str-2.ensures.bytes

@@ -1,4 +1,4 @@
-use Rattle.std.proofs.Common.{◌++◌, ◌∷◌, [], drop}
+use Rattle.std.proofs.Common.{◌++◌, drop}
 use Rattle.std.specs.Prelude.{flat_map, string_bytes}
 use Rattle.ct_json.specs.Fields.{fields_text}
 use Rattle.ct_json.specs.JsonState.{refused_fields, refusal_values}

@@ -4,8 +4,9 @@ use Rattle.json.proofs.OnLiterals.{json_on_literals}
 use Rattle.serde_json.specs.Written.{compact_text}
 use Rattle.ct_json.specs.JsonEnvelopes.{envelope_by}
 use Rattle.ct_json.specs.JsonState.{waiting_fields, waiting_value}
-use Rattle.ct_json.proofs.Left.{drop_none, drop_or, field_left, left_none, map_one}
+use Rattle.ct_json.proofs.Left.{drop_or, field_left, map_one, map_end}
 use Rattle.ct_json.proofs.json_state.push_waiting.Goals as goal
+use Rattle.std.proofs.lemmas.List.{drop_all}
 
 pub loop-i-init : goal.loop-i-init
 unfolding waiting_fields json_on_literals
@@ -27,6 +28,5 @@ loop-i-preserved c =
 
 pub returns : goal.returns
 returns c =
-    left_none c.push_str-2.result _ _ _ _ _ c.loop-i.invariant
-    (ap (map (waiting_value c.args.world.now.rehearsal c.args.senders.now)) (drop_none c.args.line.now c.loop-i.i c.loop-i-test.false))
-    c.push_str-2.ensures.bytes
+    map_end c.push_str-2.result _ (drop_all c.loop-i.i c.args.line.now c.loop-i-test.false) _ _ _ _
+    (waiting_value c.args.world.now.rehearsal c.args.senders.now) c.loop-i.invariant c.push_str-2.ensures.bytes

@@ -1,4 +1,4 @@
-use Rattle.std.proofs.Common.{◌++◌, ◌∷◌, [], drop, map}
+use Rattle.std.proofs.Common.{◌++◌, drop, map}
 use Rattle.std.specs.Prelude.{nat_lt, string_bytes}
 use Rattle.ct_json.specs.Fields.{fields_text}
 use Rattle.ct_json.specs.JsonState.{waiting_fields, waiting_value}

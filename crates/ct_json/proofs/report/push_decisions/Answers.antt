@@ -7,7 +7,7 @@ use Rattle.ct_world.specs.Decided.{last_decided}
 use Rattle.ct_world.specs.World.{member_of}
 use Rattle.ct_text.proofs.Found.{told_of}
 use Rattle.ct_json.specs.Json.{decision_values, decisions_fields}
-use Rattle.ct_json.proofs.Left.{counting_all, counting_next, counting_none, field_left, flat_none, flat_one, left_none}
+use Rattle.ct_json.proofs.Left.{counting_all, counting_next, counting_none, field_left, flat_none, flat_one, flat_end}
 use Rattle.ct_json.proofs.report.push_decisions.Goals as goal
 use Rattle.ct_json.proofs.report.push_decisions.Goals.{in-Some+in_ok-push_separator+in_ok-push_decision, in_default}
 
@@ -41,7 +41,5 @@ loop-i-preserved c =
 
 pub returns : goal.returns
 returns c =
-    let got = (member_of c.args.world.now.rehearsal c.args.member).got in
-    let i = c.loop-i.i in
-    left_none c.push_str-2.result _ _ _ _ _ c.loop-i.invariant
-    (ap (flat_map (decision_values got)) (counting_none (i + 1) c.unwrap_or-last.result i c.loop-i-test.false)) c.push_str-2.ensures.bytes
+    flat_end c.push_str-2.result _ (counting_none (c.loop-i.i + 1) c.unwrap_or-last.result c.loop-i.i c.loop-i-test.false) _ _ _ _
+    (decision_values (member_of c.args.world.now.rehearsal c.args.member).got) c.loop-i.invariant c.push_str-2.ensures.bytes

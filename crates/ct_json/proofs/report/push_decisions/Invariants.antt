@@ -1,5 +1,5 @@
-use Rattle.std.proofs.Common.{◌+◌, ◌-◌, ◌++◌, ◌∷◌, []}
-use Rattle.std.specs.Prelude.{codes, flat_map, string_bytes}
+use Rattle.std.proofs.Common.{◌+◌, ◌-◌, ◌++◌}
+use Rattle.std.specs.Prelude.{flat_map, string_bytes}
 use Rattle.ct_names.specs.Group.{counting}
 use Rattle.ct_world.specs.World.{member_of}
 use Rattle.ct_json.specs.Fields.{fields_text}

@@ -1,9 +1,9 @@
-use Rattle.std.proofs.Common.{◌+◌, ◌<◌, ◌≤◌, ap, arith, map, refl}
+use Rattle.std.proofs.Common.{◌+◌, ◌<◌, ap, arith, map, refl}
 use Rattle.std.specs.Prelude.{codes, string_bytes}
 use Rattle.json.proofs.OnLiterals.{json_on_literals}
 use Rattle.ct_names.specs.Group.{counting, members}
 use Rattle.ct_json.specs.Json.{member_value, members_fields}
-use Rattle.ct_json.proofs.Left.{counting_all, counting_next, counting_none, field_left, left_none, map_one}
+use Rattle.ct_json.proofs.Left.{counting_all, counting_next, counting_none, field_left, map_one, map_end}
 use Rattle.ct_json.proofs.report.push_members.Goals as goal
 
 pub loop-i-init : goal.loop-i-init
@@ -24,7 +24,5 @@ loop-i-preserved c =
 pub returns : goal.returns
 returns c =
     let w = c.args.world.now.rehearsal in
-    let i = c.loop-i.i in
-    let all : w.setting.members ≤ i = omega arith in
-    left_none c.push_str-2.result _ _ _ _ _ c.loop-i.invariant
-    (ap (map (member_value w)) (counting_none (i + 1) w.setting.members i all)) c.push_str-2.ensures.bytes
+    map_end c.push_str-2.result _ (counting_none (c.loop-i.i + 1) w.setting.members c.loop-i.i (omega arith)) _ _ _ _ (member_value w)
+    c.loop-i.invariant c.push_str-2.ensures.bytes

@@ -1,9 +1,10 @@
 use Rattle.std.proofs.Common.{◌+◌, ◌++◌, ap, arith, lt-ltb, map, refl, sym, ◌∙◌}
 use Rattle.std.specs.Prelude.{string_bytes}
 use Rattle.ct_json.specs.Json.{message_value, messages_value}
-use Rattle.ct_json.proofs.Left.{array_left, drop_next, drop_none, left_none, map_one}
+use Rattle.ct_json.proofs.Left.{array_left, drop_next, map_one, map_end}
 use Rattle.ct_json.proofs.Texts.{message_plain}
 use Rattle.ct_json.proofs.report.push_messages.Goals as goal
+use Rattle.std.proofs.lemmas.List.{drop_all}
 
 pub loop-i-init : goal.loop-i-init
 unfolding messages_value
@@ -20,7 +21,5 @@ loop-i-preserved c =
 
 pub returns : goal.returns
 returns c =
-    let xs = c.args.messages.now in
-    let i = c.loop-i.i in
-    left_none c.push_str-2.result _ _ _ _ _ c.loop-i.invariant (ap (map message_value) (drop_none xs i c.loop-i-test.false))
+    map_end c.push_str-2.result _ (drop_all c.loop-i.i c.args.messages.now c.loop-i-test.false) _ _ _ _ message_value c.loop-i.invariant
     c.push_str-2.ensures.bytes

@@ -1,9 +1,9 @@
-use Rattle.std.proofs.Common.{◌≤◌, ap, arith, map, refl}
+use Rattle.std.proofs.Common.{arith, map, refl}
 use Rattle.std.specs.Prelude.{codes, string_bytes}
 use Rattle.json.proofs.OnLiterals.{json_on_literals}
 use Rattle.ct_names.specs.Group.{counting}
 use Rattle.ct_json.specs.Json.{register_value, table_fields}
-use Rattle.ct_json.proofs.Left.{counting_next, counting_none, field_left, left_none, map_one}
+use Rattle.ct_json.proofs.Left.{counting_next, counting_none, field_left, map_one, map_end}
 use Rattle.ct_json.proofs.report.push_table.Goals as goal
 
 pub loop-register-init : goal.loop-register-init
@@ -21,6 +21,5 @@ loop-register-preserved c =
 pub returns : goal.returns
 returns c =
     let k = c.loop-register.register in
-    let all : 16 ≤ k = omega arith in
-    left_none c.push_str-2.result _ _ _ _ _ c.loop-register.invariant
-    (ap (map (register_value c.args.table.now)) (counting_none k 16 k all)) c.push_str-2.ensures.bytes
+    map_end c.push_str-2.result _ (counting_none k 16 k (omega arith)) _ _ _ _ (register_value c.args.table.now)
+    c.loop-register.invariant c.push_str-2.ensures.bytes

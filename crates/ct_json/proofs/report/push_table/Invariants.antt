@@ -1,5 +1,5 @@
-use Rattle.std.proofs.Common.{◌-◌, ◌++◌, ◌∷◌, [], map}
-use Rattle.std.specs.Prelude.{codes, string_bytes}
+use Rattle.std.proofs.Common.{◌-◌, ◌++◌, map}
+use Rattle.std.specs.Prelude.{string_bytes}
 use Rattle.ct_names.specs.Group.{counting}
 use Rattle.ct_json.specs.Fields.{fields_text}
 use Rattle.ct_json.specs.Json.{register_value, table_fields}
