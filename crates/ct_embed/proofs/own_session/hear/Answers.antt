@@ -1,7 +1,8 @@
 use Rattle.std.proofs.Common.{◌∙◌}
 use Rattle.std.specs.Prelude.{string_bytes}
-use Rattle.ct_embed.proofs.Hearing.{stands_as, says_as}
+use Rattle.ct_embed.proofs.Hearing.{says_as}
 use Rattle.ct_embed.proofs.own_session.hear.Goals as goal
+use Rattle.ct_judge.proofs.Hearing.{after_more}
 
 pub loop-byte-preserved : goal.loop-byte-preserved
 loop-byte-preserved c =
@@ -9,7 +10,7 @@ loop-byte-preserved c =
     let next = c.hear.new.self in
     let heard = c.in_ok-hear.ensures in
     record {
-      after = l.invariant.after ∙ stands_as l.session next c.args.bytes.now l.byte-index c.loop-byte-test.true heard.after;
+      after = l.invariant.after ∙ after_more l.session next c.args.bytes.now l.byte-index c.loop-byte-test.true heard.after;
       said = l.invariant.said ∙ says_as l.session next (string_bytes l.text) (string_bytes c.hear.new.text) c.args.bytes.now
           l.byte-index c.loop-byte-test.true heard.after heard.text;
     }
