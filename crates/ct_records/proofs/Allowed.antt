@@ -1,11 +1,7 @@
 -- One more step that was done.
-use Rattle.std.proofs.Common.{◌≡◌, None}
-use Rattle.ct_model.specs.declared.step.Step.{Step}
+use Rattle.ct_records.proofs.Common.{◌≡◌, None, Step, Rehearsal, extended, StepFits, IsBegun}
 use Rattle.ct_model.specs.Cause.{cause}
-use Rattle.ct_model.specs.Rehearsal.{Rehearsal, extended}
 use Rattle.ct_model.proofs.Record.Allows.{allowed-more}
-use Rattle.ct_records.specs.Fits.{StepFits}
-use Rattle.ct_records.specs.Front.{IsBegun}
 use Rattle.ct_records.proofs.Fitting.{fit_push}
 
 pub begun_more : (w new : Rehearsal) (s : Step) → IsBegun w → StepFits s → cause w s ≡ None → new ≡ extended w s → IsBegun new

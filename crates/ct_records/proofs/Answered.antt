@@ -1,15 +1,9 @@
 -- What is said of the bytes that were read holds of the input.
-use Rattle.std.proofs.Common.{◌≡◌, ℕ, List, Option, Some, None, Result, Ok, Err, sym, ap, subst, ◌∙◌, arith}
-use Rattle.std.specs.Prelude.{IfSome, IsOkAnd}
-use Rattle.ct_model.specs.Rehearsal.{Rehearsal}
+use Rattle.ct_records.proofs.Common.{◌≡◌, ℕ, List, Option, Some, None, Result, Ok, Err, sym, ap, subst, ◌∙◌, arith, IfSome}
+use Rattle.ct_records.proofs.Common.{IsOkAnd, Rehearsal, ProgramFault, IsBegun, IsReadOf, IsWholeOf, IsOutcome, IsReplayed, IsReportOf}
+use Rattle.ct_records.proofs.Common.{IsFaultIn, report_text, script}
 use Rattle.ct_streams.specs.Streams.{read_part}
-use Rattle.ct_records.specs.declared.program_fault.ProgramFault.{ProgramFault}
 use Rattle.ct_records.specs.declared.program_fault.ProgramFault.TheVariants.{Replay, Read, Memory, Start, Exchanged}
-use Rattle.ct_records.specs.Front.{IsBegun, IsReadOf, IsWholeOf}
-use Rattle.ct_records.specs.Outcome.{IsOutcome}
-use Rattle.ct_records.specs.Replay.{IsReplayed, IsReportOf, IsFaultIn}
-use Rattle.ct_records.specs.Report.{report_text}
-use Rattle.ct_records.specs.Script.{script}
 use Rattle.ct_records.proofs.Ended.{whole_says}
 use Rattle.ct_records.proofs.Sources.{input_is}
 use Rattle.ct_records.proofs.Whole.{script_part}

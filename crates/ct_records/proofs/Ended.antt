@@ -1,29 +1,18 @@
 -- A record whose steps stand between the numbers before them and those behind them says what its members do.
-use Rattle.std.proofs.Common.{◌≡◌, ℕ, ◌^◌, ◌<◌, ◌≤◌, true, false, List, [], ◌∷◌, ◌++◌, codes, length, Some, None}
-use Rattle.std.proofs.Common.{Ok, refl, sym, ap, subst, ◌∙◌, append_assoc, append-nil}
-use Rattle.std.specs.Str.{IsUtf8, is_utf8}
-use Rattle.std.proofs.lemmas.Str.{IsUtf8-from_is_utf8, IsUtf8-nil, is_utf8-from_IsUtf8}
-use Rattle.json.specs.Lex.{token, comma, colon}
-use Rattle.json.specs.Token.{begin_array, begin_object, end_array, end_object, string}
-use Rattle.json.specs.Word.{ends_word}
+use Rattle.ct_records.proofs.Common.{◌≡◌, ℕ, ◌^◌, ◌<◌, ◌≤◌, true, false, List, [], ◌∷◌, ◌++◌, codes, length, Some, None, Ok, refl, sym, ap}
+use Rattle.ct_records.proofs.Common.{subst, ◌∙◌, append_assoc, append-nil, IsUtf8, is_utf8, IsUtf8-from_is_utf8, IsUtf8-nil}
+use Rattle.ct_records.proofs.Common.{is_utf8-from_IsUtf8, token, comma, colon, begin_array, begin_object, end_array, end_object, string}
+use Rattle.ct_records.proofs.Common.{ends_word, Members, no_members, object, Step, Rehearsal, AllFit, lexemes, number_lexeme, steps_lexemes}
+use Rattle.ct_records.proofs.Common.{Begins, IsPlain, IsAscii, IsWhite, ReadsKey, ReadsMark, ReadsNumber, max_len, of_value, script, num}
+use Rattle.ct_records.proofs.Common.{IsTextOf, IsWholeOf, members_with, Adds, AreAll, IsFound, IsHead, IsPast, SoFar, Takes}
 use Rattle.json.proofs.OnLiterals.{json_on_literals}
-use Rattle.serde_json.specs.Data.{Members, no_members, object}
-use Rattle.ct_model.specs.declared.step.Step.{Step}
-use Rattle.ct_model.specs.Rehearsal.{Rehearsal}
-use Rattle.ct_records.specs.Fits.{AllFit}
-use Rattle.ct_records.specs.Lexemes.{lexemes, number_lexeme, steps_lexemes, Begins, IsPlain}
-use Rattle.ct_records.specs.Reading.{IsAscii, IsWhite, ReadsKey, ReadsMark, ReadsNumber}
 use Rattle.ct_records.proofs.Lexemes.{closes, commas, object_ends, opens, opens_object}
-use Rattle.ct_records.proofs.Fronts.{lexed_then, mark_begins, split_then, white_first, around}
+use Rattle.ct_records.proofs.Fronts.{around, lexed_then, mark_begins, split_then, white_first}
 use Rattle.ct_records.proofs.Utf8.{ascii_valid}
-use Rattle.ct_records.specs.Script.{max_len, of_value, script}
-use Rattle.ct_records.specs.Values.{num}
 use Rattle.ct_records.proofs.Keys.{adds_steps}
 use Rattle.ct_records.proofs.Members.{so_far_none, so_far_more, takes_number, takes_steps, plain_script}
 use Rattle.ct_records.specs.declared.numbers.Numbers.{Numbers}
-use Rattle.ct_records.specs.Front.{IsTextOf, IsWholeOf}
-use Rattle.ct_records.specs.Members.{members_with, Adds, AddsNumber, AreAll, IsFound, IsHead, IsListKey, IsPast, IsUpToList, IsUpToSteps}
-use Rattle.ct_records.specs.Members.{SoFar, Takes}
+use Rattle.ct_records.specs.Members.{AddsNumber, IsListKey, IsUpToList, IsUpToSteps}
 
 -- ---- one number
 

@@ -1,11 +1,7 @@
 -- The entries of an array, as a list.
-use Rattle.std.proofs.Common.{◌≡◌, ◌<◌, ◌≤◌, suc, List, [], ◌∷◌, length, map, None, refl, ap, arith}
-use Rattle.std.specs.Prelude.{String}
+use Rattle.ct_records.proofs.Common.{◌≡◌, ◌<◌, ◌≤◌, suc, List, [], ◌∷◌, length, map, None, refl, ap, arith, String, Data, view, items_of}
+use Rattle.ct_records.proofs.Common.{items_view, members_view, Value, list_of, count_of, command_parts, step_parts}
 use Rattle.std.specs.declared.alloc.Global.{Global}
-use Rattle.serde_json.specs.Data.{Data}
-use Rattle.serde_json.specs.View.{view, items_of, items_view, members_view}
-use Rattle.serde_json.specs.declared.value.Value.{Value}
-use Rattle.ct_records.specs.Script.{list_of, count_of, command_parts, step_parts}
 
 of_items : (ds : List Data) → list_of (items_of ds) ≡ ds
 of_items [] = refl

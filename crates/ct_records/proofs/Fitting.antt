@@ -1,8 +1,6 @@
 -- Steps that fit, one more each time.
-use Rattle.std.proofs.Common.{ℕ, ◌+◌, ◌<◌, ◌≤◌, List, [], ◌∷◌, ◌++◌, length, take, get_or, subst}
-use Rattle.std.proofs.lemmas.List.{take_more, take_all}
-use Rattle.ct_model.specs.declared.step.Step.{Step}
-use Rattle.ct_records.specs.Fits.{StepFits, AllFit}
+use Rattle.ct_records.proofs.Common.{ℕ, ◌+◌, ◌<◌, ◌≤◌, List, [], ◌∷◌, ◌++◌, length, take, get_or, subst, take_more, take_all, Step}
+use Rattle.ct_records.proofs.Common.{StepFits, AllFit}
 
 pub fit_push : (ss : List Step) (s : Step) → AllFit ss → StepFits s → AllFit (ss ++ s ∷ [])
 fit_push [] s h k = (k, tt)

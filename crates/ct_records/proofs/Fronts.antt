@@ -1,17 +1,11 @@
 -- What stands at the front of some bytes, put together.
-use Rattle.std.proofs.Common.{◌≡◌, ℕ, ◌+◌, ◌^◌, ◌<◌, ◌≤◌, true, List, [], ◌∷◌, ◌++◌, length, decimal, refl, sym, ap, ◌∙◌}
-use Rattle.std.proofs.Common.{◌-◌, arith, append_assoc, append-nil, get_or, length-append, subst, take}
-use Rattle.std.specs.Prelude.{drop}
-use Rattle.std.proofs.Math.Seq.{drop-append-add, take-append_seam}
-use Rattle.std.proofs.lemmas.List.{take-append-drop, take_all, take_more}
-use Rattle.std.proofs.lemmas.List.Elements.{All-cons, All-head, All-nil, All-tail, All-append}
-use Rattle.json.specs.Lex.{Lexeme, token, comma}
-use Rattle.json.specs.Token.{begin_array, end_array, string}
-use Rattle.json.specs.Word.{is_operator, is_space, ends_word}
-use Rattle.ct_records.specs.Lexemes.{lexemes, number_lexeme, pair_lexemes, Begins}
+use Rattle.ct_records.proofs.Common.{◌≡◌, ℕ, ◌+◌, ◌^◌, ◌<◌, ◌≤◌, true, List, [], ◌∷◌, ◌++◌, length, decimal, refl, sym, ap, ◌∙◌, ◌-◌, arith}
+use Rattle.ct_records.proofs.Common.{append_assoc, append-nil, get_or, length-append, subst, take, drop, drop-append-add, take-append_seam}
+use Rattle.ct_records.proofs.Common.{take-append-drop, take_all, take_more, All-cons, All-head, All-nil, All-tail, All-append, Lexeme}
+use Rattle.ct_records.proofs.Common.{token, comma, begin_array, end_array, string, is_operator, is_space, ends_word, lexemes, number_lexeme}
+use Rattle.ct_records.proofs.Common.{pair_lexemes, Begins, IsAscii, IsWhite, IsBehindWhite, Says, Reads, ReadsMark, ReadsNumber, ReadsName}
+use Rattle.ct_records.proofs.Common.{ReadsKey, ReadsEntry}
 use Rattle.ct_records.proofs.Lexemes.{commas, colons, opens, closes, word_first, number_first, space_skipped}
-use Rattle.ct_records.specs.Reading.{IsAscii, IsWhite, IsBehindWhite, Says, Reads, ReadsMark, ReadsNumber, ReadsName, ReadsKey}
-use Rattle.ct_records.specs.Reading.{ReadsEntry}
 use Rattle.ct_records.proofs.Utf8.{ascii_valid, decimal_valid, valid_then, white_valid}
 
 -- ---- places

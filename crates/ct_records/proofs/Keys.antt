@@ -1,10 +1,6 @@
 -- Where a key is put into the members of a record.
-use Rattle.std.proofs.Common.{◌≡◌, ℕ, List, codes, Option, Some, refl, arith}
+use Rattle.ct_records.proofs.Common.{◌≡◌, ℕ, List, codes, Option, Some, refl, arith, array, Step, members_from, Adds, num, steps_data}
 use Rattle.json.proofs.OnLiterals.{json_on_literals}
-use Rattle.serde_json.specs.Data.{array}
-use Rattle.ct_model.specs.declared.step.Step.{Step}
-use Rattle.ct_records.specs.Members.{members_from, Adds}
-use Rattle.ct_records.specs.Values.{num, steps_data}
 
 pub adds_batch : (key : List ℕ) (x : ℕ) (batch cells n : Option ℕ) (steps : Option (List Step)) (version : Option ℕ) →
     key ≡ codes "batch" → Adds key (num x) (members_from batch cells n steps version) (members_from (Some x) cells n steps version)

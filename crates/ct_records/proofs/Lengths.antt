@@ -1,9 +1,6 @@
 -- Texts in ASCII of bounded length.
-use Rattle.std.proofs.Common.{◌≡◌, ℕ, ◌+◌, ◌^◌, ◌<◌, ◌≤◌, true, List, ◌++◌, length, decimal, arith, length-append}
-use Rattle.std.specs.Str.{IsUtf8}
-use Rattle.std.proofs.lemmas.Fmt.{IsAscii-decimal, length-decimal-le}
-use Rattle.std.proofs.lemmas.Str.{IsUtf8-append, IsUtf8-from_ascii}
-use Rattle.json.proofs.Printed.Utf8.{are_ascii, IsUtf8-are_ascii}
+use Rattle.ct_records.proofs.Common.{◌≡◌, ℕ, ◌+◌, ◌^◌, ◌<◌, ◌≤◌, true, List, ◌++◌, length, decimal, arith, length-append, IsUtf8}
+use Rattle.ct_records.proofs.Common.{IsAscii-decimal, length-decimal-le, IsUtf8-append, IsUtf8-from_ascii, are_ascii, IsUtf8-are_ascii}
 
 pub record Text (t : List ℕ) (k : ℕ) : Type 0 where
   pub utf8 : IsUtf8 t

@@ -1,20 +1,13 @@
 -- Lexemes, put together.
-use Rattle.std.proofs.Common.{◌≡◌, ℕ, ◌+◌, ◌*◌, ◌/◌, ◌%◌, ◌<◌, ◌^◌, Bool, true, false, List, [], ◌∷◌, ◌++◌, length, take, get_or}
-use Rattle.std.proofs.Common.{decimal, Option, Some, None, refl, sym, ap, ◌∙◌, arith, append_assoc, inl, inr}
-use Rattle.std.specs.Prelude.{◌⊎◌, ◌==◌, IfSome, nat_lt}
-use Rattle.std.proofs.lemmas.List.{take_more}
-use Rattle.std.proofs.lemmas.Fmt.{decimal_digit, decimal_step}
-use Rattle.std.proofs.lemmas.Bool.{lt-ltb, eqb-true}
-use Rattle.json.specs.Token.{begin_object, end_object, begin_array, end_array, string}
-use Rattle.json.specs.Lex.{Lexeme, token, comma, colon, string_token, lex, between, in_string}
-use Rattle.json.specs.Print.{escape, quoted}
-use Rattle.json.specs.Word.{is_space, ends_word}
-use Rattle.json.proofs.Printed.Decimals.{IsNumber-decimal}
+use Rattle.ct_records.proofs.Common.{◌≡◌, ℕ, ◌+◌, ◌*◌, ◌/◌, ◌%◌, ◌<◌, ◌^◌, Bool, true, false, List, [], ◌∷◌, ◌++◌, length, take, get_or}
+use Rattle.ct_records.proofs.Common.{decimal, Option, Some, None, refl, sym, ap, ◌∙◌, arith, append_assoc, inl, inr, ◌⊎◌, ◌==◌, IfSome}
+use Rattle.ct_records.proofs.Common.{nat_lt, take_more, decimal_digit, decimal_step, eqb-true, nat_tests, begin_object, end_object}
+use Rattle.ct_records.proofs.Common.{begin_array, end_array, string, Lexeme, token, comma, colon, escape, quoted, is_space, ends_word}
+use Rattle.ct_records.proofs.Common.{IsNumber-decimal, Step, lexemes, number_lexeme, step_lexemes, comma_if, steps_lexemes, Begins, IsPlain}
+use Rattle.std.proofs.lemmas.Bool.{lt-ltb}
+use Rattle.json.specs.Lex.{string_token, lex, between, in_string}
 use Rattle.json.proofs.Printed.Numbers.{lex-number}
 use Rattle.json.proofs.Printed.Strings.{content-escape, lex-escape}
-use Rattle.ct_model.specs.declared.step.Step.{Step}
-use Rattle.ct_records.specs.Lexemes.{lexemes, number_lexeme, step_lexemes, comma_if, steps_lexemes, Begins, IsPlain}
-use Rattle.std.proofs.lemmas.Bool.Decides.{nat_tests}
 
 -- ---- numbers
 

@@ -1,16 +1,9 @@
 -- Reading steps one after the other.
-use Rattle.std.proofs.Common.{arith, ◌≡◌, ℕ, suc, ◌+◌, ◌<◌, ◌≤◌, List, [], ◌∷◌, ◌++◌, length, get_or, Some, None, Result, Ok, Err, refl}
-use Rattle.std.proofs.Common.{sym, ap, ◌∙◌, add-one, append_assoc, append-nil}
-use Rattle.std.proofs.lemmas.Bool.Decides.{nat_tests}
-use Rattle.std.specs.Prelude.{drop, map}
-use Rattle.std.proofs.Math.Seq.{drop-cons}
-use Rattle.std.proofs.lemmas.List.{drop_all, length-map, get_or-map}
-use Rattle.serde_json.specs.View.{view}
-use Rattle.serde_json.specs.declared.value.Value.{Value}
-use Rattle.ct_model.specs.declared.step.Step.{Step}
+use Rattle.ct_records.proofs.Common.{arith, ◌≡◌, ℕ, suc, ◌+◌, ◌<◌, ◌≤◌, List, [], ◌∷◌, ◌++◌, length, get_or, Some, None, Result, Ok, Err}
+use Rattle.ct_records.proofs.Common.{refl, sym, ap, ◌∙◌, add-one, append_assoc, append-nil, nat_tests, drop, map, drop-cons, drop_all}
+use Rattle.ct_records.proofs.Common.{length-map, get_or-map, view, Value, Step, Shape, ◌>>=◌, step_in}
 use Rattle.ct_records.specs.declared.read_fault.ReadFault.{ReadFault}
-use Rattle.ct_records.specs.declared.read_fault.ReadFault.TheVariants.{Shape}
-use Rattle.ct_records.specs.Script.{◌>>=◌, step_in, steps_of}
+use Rattle.ct_records.specs.Script.{steps_of}
 
 -- what was read before, and what is still read
 abbrev pub with_front : List Step → Result (List Step) ReadFault → Result (List Step) ReadFault

@@ -1,35 +1,24 @@
 -- From the lexemes of an object's members to what the object says.
-use Rattle.std.proofs.Common.{◌≡◌, ℕ, ◌<◌, ◌≤◌, ◌^◌, true, List, [], ◌∷◌, ◌++◌, length, decimal, Option, Some, None, Ok, refl}
-use Rattle.std.proofs.Common.{sym, ap, ◌∙◌}
-use Rattle.std.proofs.Common.{arith, append_assoc, append-nil, inl, inr, ne_eqb, false}
-use Rattle.std.specs.Prelude.{◌⊎◌, All, option_map, option_and_then}
-use Rattle.std.specs.Str.{IsUtf8}
-use Rattle.json.specs.Token as json
-use Rattle.json.specs.Token.{begin_object, end_object, begin_array, end_array, string}
-use Rattle.json.specs.Json as tree
-use Rattle.json.specs.Lex.{Lexeme, token, comma, colon, Place, fresh, after_comma, after_key, after_value, may_begin, punctuate, tokens}
+use Rattle.ct_records.proofs.Common.{◌≡◌, ℕ, ◌<◌, ◌≤◌, ◌^◌, true, List, [], ◌∷◌, ◌++◌, length, decimal, Option, Some, None, Ok, refl, sym}
+use Rattle.ct_records.proofs.Common.{ap, ◌∙◌, arith, append_assoc, append-nil, inl, inr, ne_eqb, false, ◌⊎◌, All, option_map}
+use Rattle.ct_records.proofs.Common.{option_and_then, IsUtf8, begin_object, end_object, begin_array, end_array, string, Lexeme, token}
+use Rattle.ct_records.proofs.Common.{comma, colon, fresh, tokens, ends_word, value-json_tokens, array, number, object, Members, no_members}
+use Rattle.ct_records.proofs.Common.{read, of_json, number_of-decimal, MAX_BOUND, Step, Rehearsal, Rest, nothing, step_entry, AllFit}
+use Rattle.ct_records.proofs.Common.{IsStorable, lexemes, number_lexeme, entry_lexemes, rest_lexemes, steps_lexemes, Begins, IsPlain, Adds}
+use Rattle.ct_records.proofs.Common.{Takes, SoFar, IsPast, IsBound, members_from, since, of_value, max_len, script, num, entry_data}
+use Rattle.ct_records.proofs.Common.{rest_data, step_data, steps_data}
+use Rattle.json.specs.Lex.{Place, after_comma, after_key, after_value, may_begin, punctuate}
 use Rattle.json.specs.Tree.{json_tokens, items_tokens, members_tokens}
-use Rattle.json.specs.Word.{ends_word}
 use Rattle.json.proofs.OnLiterals.{json_on_literals}
-use Rattle.json.proofs.Printed.Trees.{value-json_tokens}
-use Rattle.serde_json.specs.Data.{array, number, object, Members, no_members}
-use Rattle.serde_json.specs.Read.{read, of_json}
 use Rattle.serde_json.specs.Written.{outline, items_outline}
-use Rattle.serde_json.proofs.Numbers.{number_of-decimal}
-use Rattle.ct_names.specs.declared.limit.TheConstants.{MAX_BOUND}
-use Rattle.ct_model.specs.declared.step.Step.{Step}
-use Rattle.ct_model.specs.Rehearsal.{Rehearsal}
-use Rattle.ct_model.specs.StepText as steps
-use Rattle.ct_model.specs.StepText.{Rest, nothing, step_entry}
-use Rattle.ct_records.specs.Fits.{AllFit, IsStorable}
-use Rattle.ct_records.specs.Lexemes.{lexemes, number_lexeme, entry_lexemes, rest_lexemes, steps_lexemes, Begins, IsPlain}
 use Rattle.ct_records.proofs.Lexemes.{commas, opens_object}
-use Rattle.ct_records.specs.Members.{Adds, Takes, Closes, SoFar, IsPast, IsBound, members_from}
-use Rattle.ct_records.specs.Script.{since, of_value, max_len, script}
-use Rattle.ct_records.specs.Values.{num, entry_data, rest_data, step_data, steps_data}
+use Rattle.ct_records.specs.Members.{Closes}
 use Rattle.ct_records.proofs.Stored.{steps_stored}
 use Rattle.ct_records.proofs.Whole.{script_read}
 use Rattle.ct_records.proofs.Written.{record_is}
+use Rattle.json.specs.Token as json
+use Rattle.json.specs.Json as tree
+use Rattle.ct_model.specs.StepText as steps
 
 -- ---- the tokens of the steps
 

@@ -1,20 +1,13 @@
 -- Commands and steps by their names.
-use Rattle.std.proofs.Common.{◌≡◌, ℕ, ◌≤◌, Bool, true, false, List, [], ◌∷◌, ◌++◌, length, Option, Some, None, refl, sym, ap, arith}
-use Rattle.std.specs.Prelude.{map, option_and_then, if◌then◌else◌}
-use Rattle.std.specs.Str.{bytes_eq}
-use Rattle.std.proofs.lemmas.Bool.{leb-true}
+use Rattle.ct_records.proofs.Common.{◌≡◌, ℕ, ◌≤◌, Bool, true, false, List, [], ◌∷◌, ◌++◌, length, Option, Some, None, refl, sym, ap, arith}
+use Rattle.ct_records.proofs.Common.{map, option_and_then, if◌then◌else◌, bytes_eq, leb-true, quoted, are_ascii, Command, Step, Submit}
+use Rattle.ct_records.proofs.Common.{Number, Rest, nothing, command, amount, command_entry, step_entry, CommandFits}
 use Rattle.std.proofs.lemmas.Slice.Eq.{bytes_eq-Decides}
-use Rattle.json.specs.Print.{quoted}
 use Rattle.json.proofs.OnLiterals.{json_on_literals}
-use Rattle.json.proofs.Printed.Utf8.{are_ascii}
-use Rattle.ct_names.specs.declared.command.Command.{Command}
 use Rattle.ct_names.specs.declared.command.Command.TheVariants.{Set}
-use Rattle.ct_model.specs.declared.step.Step.{Step}
-use Rattle.ct_model.specs.declared.step.Step.TheVariants.{Submit}
-use Rattle.ct_model.specs.StepText.{Number, Rest, nothing, number, command, Entry, amount, command_entry, step_entry}
-use Rattle.ct_records.specs.Names.{named, fits, rest_fits, commands, named_command, alone, with_number, with_command}
-use Rattle.ct_records.specs.Names.{short_step, numbered_step, commanded_step}
-use Rattle.ct_records.specs.Fits.{CommandFits}
+use Rattle.ct_model.specs.StepText.{number, Entry}
+use Rattle.ct_records.specs.Names.{named, fits, rest_fits, commands, named_command, alone, with_number, with_command, short_step}
+use Rattle.ct_records.specs.Names.{numbered_step, commanded_step}
 
 -- a name of eight letters at most, none of which is escaped
 pub record IsName (s : List ℕ) : Type 0 where

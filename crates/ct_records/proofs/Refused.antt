@@ -1,16 +1,10 @@
 -- A refused step of a replay.
-use Rattle.std.proofs.Common.{◌≡◌, ℕ, ◌-◌, zero, suc, List, Result, Ok, Err, inl, inr, subst, arith}
-use Rattle.std.specs.Prelude.{◌≢◌, IfErr, IsErrAnd}
+use Rattle.ct_records.proofs.Common.{◌≡◌, ℕ, ◌-◌, zero, suc, List, Result, Ok, Err, inl, inr, subst, arith, ◌≢◌, IfErr, IsErrAnd, Step}
+use Rattle.ct_records.proofs.Common.{Rehearsal, ProgramFault, IsOfReplayFault, script, IsRefused, IsFaultIn}
 use Rattle.ct_names.specs.declared.refusal.Refusal.{Refusal}
-use Rattle.ct_names.specs.declared.refusal.Refusal.TheVariants as cause
-use Rattle.ct_model.specs.declared.step.Step.{Step}
-use Rattle.ct_model.specs.Rehearsal.{Rehearsal}
 use Rattle.ct_world.specs.Replay.{IsFaultOf}
 use Rattle.ct_world.specs.declared.replay_fault.ReplayFault.{ReplayFault}
-use Rattle.ct_records.specs.declared.program_fault.ProgramFault.{ProgramFault}
-use Rattle.ct_records.specs.ProgramFault.{IsOfReplayFault}
-use Rattle.ct_records.specs.Script.{script}
-use Rattle.ct_records.specs.Replay.{IsRefused, IsFaultIn}
+use Rattle.ct_names.specs.declared.refusal.Refusal.TheVariants as cause
 
 pub is_refused : (w : Rehearsal) (at : ℕ) (refusal : Refusal) → IsFaultOf w.setting w.cells w.steps at refusal →
     refusal ≢ cause.OutOfMemory → IsRefused w at refusal

@@ -1,20 +1,12 @@
 -- What was read of a source, one read after the other.
-use Rattle.std.proofs.Common.{◌≡◌, ℕ, suc, ◌+◌, ◌≤◌, ◌<◌, List, [], ◌∷◌, ◌++◌, length, Option, Some, None, Err, refl, sym, ap, ◌∙◌}
-use Rattle.std.proofs.Common.{append_assoc, append-nil, arith, inl, inr, subst, length-append, le-ltb, lt-ltb, ◌-◌, take}
-use Rattle.std.specs.Prelude.{drop, IfSome, option_and_then}
-use Rattle.std.proofs.Math.Seq.{take-append-le, take-append_seam}
-use Rattle.std.specs.Str.{is_utf8}
-use Rattle.std.specs.Io.KnownBytes.{Consumes, IsAtEnd}
-use Rattle.json.specs.Lex.{Lexeme, punctuate, fresh}
+use Rattle.ct_records.proofs.Common.{◌≡◌, ℕ, suc, ◌+◌, ◌≤◌, ◌<◌, List, [], ◌∷◌, ◌++◌, length, Option, Some, None, Err, refl, sym, ap, ◌∙◌}
+use Rattle.ct_records.proofs.Common.{append_assoc, append-nil, arith, inl, inr, subst, length-append, le-ltb, lt-ltb, ◌-◌, take, drop}
+use Rattle.ct_records.proofs.Common.{IfSome, option_and_then, take-append-le, take-append_seam, is_utf8, Consumes, IsAtEnd, Lexeme, fresh}
+use Rattle.ct_records.proofs.Common.{Data, max_depth, of_json, read, Step, lexemes, TooLong, max_len, Input, Advances, AreDone, AreTaken}
+use Rattle.ct_records.proofs.Common.{Goes, IsEnough, IsReadAs, IsSeen, SaysSame}
+use Rattle.json.specs.Lex.{punctuate}
+use Rattle.ct_records.specs.Script.{script}
 use Rattle.json.specs.Json as tree
-use Rattle.serde_json.specs.Data.{Data}
-use Rattle.serde_json.specs.Read.{max_depth, of_json, read}
-use Rattle.ct_model.specs.declared.step.Step.{Step}
-use Rattle.ct_records.specs.Lexemes.{lexemes}
-use Rattle.ct_records.specs.declared.read_fault.ReadFault.TheVariants.{TooLong}
-use Rattle.ct_records.specs.Script.{script, max_len}
-use Rattle.ct_records.specs.declared.input.Input.{Input}
-use Rattle.ct_records.specs.Front.{Advances, AreDone, AreTaken, Goes, IsEnough, IsReadAs, IsSeen, SaysSame}
 
 consumes_more : (a b c : Option (List ℕ)) (xs ys : List ℕ) → Consumes a b xs → Consumes b c ys → Consumes a c (xs ++ ys)
 consumes_more None b c xs ys h k = tt

@@ -1,13 +1,7 @@
 -- What was read behind the start of a record makes the whole.
-use Rattle.std.proofs.Common.{◌≡◌, ℕ, ◌≤◌, List, [], ◌++◌, Option, refl, sym, subst, arith, ◌∙◌}
-use Rattle.std.specs.Io.KnownBytes.{IsAtEnd}
-use Rattle.ct_model.specs.declared.step.Step.{Step}
-use Rattle.ct_model.specs.Rehearsal.{Rehearsal}
-use Rattle.ct_records.specs.Fits.{AllFit}
-use Rattle.ct_records.specs.Text.{steps_text}
-use Rattle.ct_records.specs.declared.input.Input.{Input}
+use Rattle.ct_records.proofs.Common.{◌≡◌, ℕ, ◌≤◌, List, [], ◌++◌, Option, refl, sym, subst, arith, ◌∙◌, IsAtEnd, Step, Rehearsal, AllFit}
+use Rattle.ct_records.proofs.Common.{steps_text, Input, Advances, IsEnd, IsReadAs, IsReadOf, IsSeen, IsTextOf, SaysSame}
 use Rattle.ct_records.specs.declared.start.Start.{Start}
-use Rattle.ct_records.specs.Front.{Advances, IsEnd, IsReadAs, IsReadOf, IsSeen, IsTextOf, SaysSame}
 use Rattle.ct_records.specs.Start.{IsStart}
 use Rattle.ct_records.proofs.Sources.{goes_on, seen_none}
 use Rattle.ct_records.proofs.Texts.{steps_same}

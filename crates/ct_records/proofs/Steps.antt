@@ -1,28 +1,20 @@
 -- One step at the front of some bytes.
-use Rattle.std.proofs.Common.{◌≡◌, ℕ, ◌+◌, Bool, true, false, List, [], ◌∷◌, ◌++◌, length, codes, decimal, refl, sym, ap}
-use Rattle.std.proofs.Common.{◌∙◌, arith, append_assoc, length-append}
-use Rattle.std.specs.Prelude.{if◌then◌else◌}
-use Rattle.std.specs.List.{concat}
-use Rattle.json.specs.Lex.{Lexeme, token, comma}
-use Rattle.json.specs.Token.{begin_array, end_array, string}
-use Rattle.json.specs.Word.{ends_word}
-use Rattle.ct_names.specs.declared.command.Command.{Command}
-use Rattle.ct_model.specs.declared.step.Step.{Step}
-use Rattle.ct_model.specs.declared.step.Step.TheVariants.{Submit, Receive, Postpone}
-use Rattle.ct_model.specs.StepText.{Number, nothing, number, command, amount, command_entry, command_text, entry_text, rest_texts}
-use Rattle.ct_model.specs.StepText.{step_entry}
-use Rattle.ct_model.specs.StepText.{step_text}
-use Rattle.ct_records.specs.Lexemes.{lexemes, number_lexeme, entry_lexemes, command_lexemes, rest_lexemes, step_lexemes}
-use Rattle.ct_records.specs.Lexemes.{comma_if, pair_lexemes}
+use Rattle.ct_records.proofs.Common.{◌≡◌, ℕ, ◌+◌, Bool, true, false, List, [], ◌∷◌, ◌++◌, length, codes, decimal, refl, sym, ap, ◌∙◌, arith}
+use Rattle.ct_records.proofs.Common.{append_assoc, length-append, if◌then◌else◌, concat, Lexeme, token, comma, begin_array, end_array}
+use Rattle.ct_records.proofs.Common.{string, ends_word, Command, Step, Submit, Number, nothing, command, amount, command_entry, entry_text}
+use Rattle.ct_records.proofs.Common.{rest_texts, step_entry, lexemes, number_lexeme, entry_lexemes, command_lexemes, rest_lexemes}
+use Rattle.ct_records.proofs.Common.{step_lexemes, comma_if, pair_lexemes, IsBehindWhite, IsValid, Reads, ReadsMark, ReadsNumber}
+use Rattle.ct_records.proofs.Common.{ReadsEntry, ReadsTail, ReadsStep}
+use Rattle.ct_model.specs.declared.step.Step.TheVariants.{Receive, Postpone}
+use Rattle.ct_model.specs.StepText.{number, command_text, step_text}
 use Rattle.ct_records.specs.Quick.{ReadsNamed, name_of, step_of}
-use Rattle.ct_records.specs.Reading.{IsBehindWhite, IsValid, Reads, ReadsMark, ReadsNumber, ReadsEntry, ReadsTail, ReadsStep}
 use Rattle.ct_records.specs.declared.scan.kind.Kind.{Kind}
-use Rattle.ct_records.specs.declared.scan.kind.Kind.TheVariants as kind
 use Rattle.ct_records.proofs.Lexemes.{commas, word_first}
 use Rattle.ct_records.proofs.Names.{IsName, command_name, step_name}
-use Rattle.ct_records.proofs.Fronts.{reads_then, reads_as, white_none, white_reads, mark_begins, mark_behind, mark_first}
-use Rattle.ct_records.proofs.Fronts.{mark_opens, mark_comma, mark_closes, number_closes, name_behind, entry_reads}
+use Rattle.ct_records.proofs.Fronts.{reads_then, reads_as, white_none, white_reads, mark_begins, mark_behind, mark_first, mark_opens}
+use Rattle.ct_records.proofs.Fronts.{mark_comma, mark_closes, number_closes, name_behind, entry_reads}
 use Rattle.ct_records.proofs.Utf8.{ascii_are, ascii_valid, valid_then}
+use Rattle.ct_records.specs.declared.scan.kind.Kind.TheVariants as kind
 
 -- ---- entries
 

@@ -1,35 +1,25 @@
 -- The value that a record is, and that its text reads as that value.
-use Rattle.std.proofs.Common.{◌≡◌, ℕ, ◌+◌, ◌*◌, ◌^◌, ◌<◌, ◌≤◌, true, false, List, [], ◌∷◌, ◌++◌, length, codes, decimal, Some}
-use Rattle.std.proofs.Common.{refl, sym, ap, ap₂, ◌∙◌, arith, append_assoc, append-nil}
-use Rattle.std.specs.Prelude.{map, option_map, option_and_then}
+use Rattle.ct_records.proofs.Common.{◌≡◌, ℕ, ◌+◌, ◌*◌, ◌^◌, ◌<◌, ◌≤◌, true, false, List, [], ◌∷◌, ◌++◌, length, codes, decimal, Some, refl}
+use Rattle.ct_records.proofs.Common.{sym, ap, ap₂, ◌∙◌, arith, append_assoc, append-nil, map, option_map, option_and_then, concat, tokens}
+use Rattle.ct_records.proofs.Common.{IsNumber-decimal, value-json_tokens, Data, number, Items, no_items, item, read, of_json, of_items}
+use Rattle.ct_records.proofs.Common.{number_of-decimal, Command, Step, Rehearsal, Number, amount, Rest, nothing, command, command_entry}
+use Rattle.ct_records.proofs.Common.{step_entry, entry_text, rest_texts, CommandFits, RestFits, StepFits, AllFit, IsStorable, steps_text}
+use Rattle.ct_records.proofs.Common.{num, entry_data, command_data, rest_data, step_data, steps_data, record_data, rest_of, rest_of-join}
 use Rattle.std.specs.Fmt.{digits}
-use Rattle.std.specs.List.{concat}
 use Rattle.std.proofs.lemmas.List.Folds.{concat-append}
-use Rattle.json.specs.Json as json
-use Rattle.json.specs.Lex.{tokens}
-use Rattle.json.specs.Tree as tree
 use Rattle.json.proofs.OnLiterals.{json_on_literals}
-use Rattle.json.proofs.Printed.Decimals.{IsNumber-decimal}
 use Rattle.json.proofs.Printed.Tokens.{tokens-print}
-use Rattle.json.proofs.Printed.Trees.{value-json_tokens, ArePrintable-json_tokens}
-use Rattle.serde_json.specs.Data.{Data, number, Items, no_items, item}
-use Rattle.serde_json.specs.Read.{read, of_json, of_items}
+use Rattle.json.proofs.Printed.Trees.{ArePrintable-json_tokens}
 use Rattle.serde_json.specs.Written.{outline, items_outline, compact_text, items_text}
-use Rattle.serde_json.proofs.Numbers.{number_of-decimal}
 use Rattle.serde_json.proofs.Texts.{print-outline}
-use Rattle.ct_names.specs.declared.command.Command.{Command}
-use Rattle.ct_model.specs.declared.step.Step.{Step}
-use Rattle.ct_model.specs.Rehearsal.{Rehearsal}
-use Rattle.ct_model.specs.StepText as steps
-use Rattle.ct_model.specs.StepText.{Number, byte, value, amount, Rest, nothing, command, command_entry, step_entry}
-use Rattle.ct_model.specs.StepText.{entry_text, command_text, rest_texts, step_text}
-use Rattle.ct_records.specs.Fits.{NumberFits, CommandFits, RestFits, StepFits, AllFit, IsStorable}
-use Rattle.ct_records.specs.Text.{steps_text}
-use Rattle.ct_records.specs.Values.{num, entry_data, command_data, rest_data, step_data, steps_data, record_data}
-use Rattle.ct_text.proofs.Joins.{rest_of, rest_of-join}
-use Rattle.ct_records.proofs.Lengths as lengths
+use Rattle.ct_model.specs.StepText.{byte, value, command_text, step_text}
+use Rattle.ct_records.specs.Fits.{NumberFits}
 use Rattle.ct_records.proofs.Lengths.{Text}
 use Rattle.ct_records.proofs.Names.{IsName, command_name, step_name}
+use Rattle.json.specs.Json as json
+use Rattle.json.specs.Tree as tree
+use Rattle.ct_model.specs.StepText as steps
+use Rattle.ct_records.proofs.Lengths as lengths
 
 -- ---- values that are read as they are written
 

@@ -1,26 +1,17 @@
 -- The text of all steps, with white space at any place or without.
-use Rattle.std.proofs.Common.{◌≡◌, ℕ, ◌+◌, ◌^◌, ◌<◌, ◌≤◌, Bool, true, false, List, [], ◌∷◌, ◌++◌, length, codes, decimal, refl, sym, ap}
-use Rattle.std.proofs.Common.{◌∙◌, ◌-◌, arith, append_assoc, append-nil, length-append, subst, lt-ltb}
-use Rattle.std.specs.Prelude.{drop, map, nat_eq, nat_lt, not}
+use Rattle.ct_records.proofs.Common.{◌≡◌, ℕ, ◌+◌, ◌^◌, ◌<◌, ◌≤◌, Bool, true, false, List, [], ◌∷◌, ◌++◌, length, codes, decimal, refl, sym}
+use Rattle.ct_records.proofs.Common.{ap, ◌∙◌, ◌-◌, arith, append_assoc, append-nil, length-append, subst, lt-ltb, drop, map, nat_eq, nat_lt}
+use Rattle.ct_records.proofs.Common.{not, concat, is_utf8, Lexeme, token, comma, begin_array, Command, Step, Rest, nothing, command, amount}
+use Rattle.ct_records.proofs.Common.{command_entry, rest_texts, step_entry, lexemes, command_lexemes, step_lexemes, steps_lexemes, comma_if}
+use Rattle.ct_records.proofs.Common.{IsValid, Says, Reads, ReadsNumber, ReadsEntry, ReadsTail, ReadsStep, next_text, AllFit, CommandFits}
+use Rattle.ct_records.proofs.Common.{RestFits, StepFits, AreTaken, IsAfter, IsTextOf, SaysSame, steps_text, rest_of, rest_of-join}
 use Rattle.std.proofs.lemmas.Bool.{ne_eqb}
-use Rattle.std.specs.List.{concat}
-use Rattle.std.specs.Str.{is_utf8}
-use Rattle.json.specs.Lex.{Lexeme, token, comma}
-use Rattle.json.specs.Token.{begin_array}
-use Rattle.ct_names.specs.declared.command.Command.{Command}
-use Rattle.ct_model.specs.declared.step.Step.{Step}
-use Rattle.ct_model.specs.StepText.{Rest, nothing, number, command, amount, command_entry, command_text, rest_texts, step_entry, step_text}
-use Rattle.ct_records.specs.Lexemes.{lexemes, command_lexemes, step_lexemes, steps_lexemes, comma_if}
-use Rattle.ct_records.specs.Reading.{IsValid, Says, Reads, ReadsNumber, ReadsEntry, ReadsTail, ReadsStep, next_text}
+use Rattle.ct_model.specs.StepText.{number, command_text, step_text}
 use Rattle.ct_records.proofs.Lexemes.{opens, steps_joined}
-use Rattle.ct_records.proofs.Fronts.{says_none, says_then, mark_begins, mark_comma, mark_first, left_is, number_plain, name_behind, around}
+use Rattle.ct_records.proofs.Fronts.{around, says_none, says_then, mark_begins, mark_comma, mark_first, left_is, number_plain, name_behind}
 use Rattle.ct_records.proofs.Fronts.{entry_reads}
 use Rattle.ct_records.proofs.Steps.{command_reads, tail_short, tail_numbered, tail_commanded, step_reads}
 use Rattle.ct_records.proofs.Utf8.{valid_then}
-use Rattle.ct_records.specs.Fits.{AllFit, CommandFits, RestFits, StepFits}
-use Rattle.ct_records.specs.Front.{AreTaken, IsAfter, IsTextOf, SaysSame}
-use Rattle.ct_records.specs.Text.{steps_text}
-use Rattle.ct_text.proofs.Joins.{rest_of, rest_of-join}
 use Rattle.ct_records.proofs.Stored.{amount_fits}
 
 later_is : (ss : List Step) (empty : Bool) → empty ≡ nat_eq (length ss) 0 → not empty ≡ nat_lt 0 (length ss)

@@ -1,17 +1,11 @@
 -- ASCII in front of a text changes nothing of whether it is UTF-8.
-use Rattle.std.proofs.Common.{◌≡◌, ℕ, ◌^◌, ◌<◌, true, List, [], ◌∷◌, ◌++◌, decimal, refl, sym, ap, ◌∙◌, arith}
-use Rattle.std.proofs.Common.{append_assoc}
-use Rattle.std.specs.Str.{is_utf8}
+use Rattle.ct_records.proofs.Common.{◌≡◌, ℕ, ◌^◌, ◌<◌, true, List, [], ◌∷◌, ◌++◌, decimal, refl, sym, ap, ◌∙◌, arith}
+use Rattle.ct_records.proofs.Common.{append_assoc, is_utf8, and_parts, ltb-true, nat_tests, decimal_is_IsNumeral, All-cons, All-head}
+use Rattle.ct_records.proofs.Common.{All-nil, All-tail, IsUtf8-append, IsUtf8-past_char, IsUtf8-from_is_utf8, is_utf8-from_IsUtf8}
+use Rattle.ct_records.proofs.Common.{encode_ascii, are_ascii, IsUtf8-are_ascii, is_space, IsAscii, IsValid, IsWhite}
 use Rattle.std.specs.Str.Parse.{AllDigits}
-use Rattle.std.proofs.lemmas.Bool.{and_parts, lt-ltb, ltb-true}
-use Rattle.std.proofs.lemmas.Fmt.{decimal_is_IsNumeral}
-use Rattle.std.proofs.lemmas.List.Elements.{All-cons, All-head, All-nil, All-tail}
-use Rattle.std.proofs.lemmas.Str.{IsUtf8-append, IsUtf8-past_char, IsUtf8-from_is_utf8, is_utf8-from_IsUtf8, encode_ascii}
+use Rattle.std.proofs.lemmas.Bool.{lt-ltb}
 use Rattle.std.proofs.lemmas.Str.Parse.{digit_from_value}
-use Rattle.json.proofs.Printed.Utf8.{are_ascii, IsUtf8-are_ascii}
-use Rattle.json.specs.Word.{is_space}
-use Rattle.ct_records.specs.Reading.{IsAscii, IsValid, IsWhite}
-use Rattle.std.proofs.lemmas.Bool.Decides.{nat_tests}
 use Rattle.ct_names.proofs.Sets.{same_test}
 
 -- ---- bytes

@@ -1,16 +1,8 @@
 -- From bytes to a value.
-use Rattle.std.proofs.lemmas.Bool.Decides.{nat_tests}
-use Rattle.std.proofs.Common.{◌≡◌, ℕ, ◌≤◌, ◌<◌, Bool, true, false, cond, List, length, Option, Some, None, Err, refl, arith, le-ltb, lt-ltb}
-use Rattle.std.proofs.Common.{inl, inr}
-use Rattle.std.specs.Prelude.{take}
-use Rattle.std.proofs.lemmas.Bool.{cases_lt}
-use Rattle.std.proofs.lemmas.List.{take_all, length-take}
-use Rattle.std.specs.Str.{IsUtf8, is_utf8}
-use Rattle.std.proofs.lemmas.Str.{IsUtf8-from_is_utf8, is_utf8-from_IsUtf8}
-use Rattle.serde_json.specs.Data.{Data}
-use Rattle.serde_json.specs.Read.{read}
-use Rattle.ct_records.specs.declared.read_fault.ReadFault.TheVariants.{NotJson}
-use Rattle.ct_records.specs.Script.{data_of, of_value, max_len, script}
+use Rattle.ct_records.proofs.Common.{nat_tests, ◌≡◌, ℕ, ◌≤◌, ◌<◌, Bool, true, false, cond, List, length, Option, Some, None, Err, refl}
+use Rattle.ct_records.proofs.Common.{arith, le-ltb, lt-ltb, inl, inr, take, cases_lt, take_all, length-take, IsUtf8, is_utf8}
+use Rattle.ct_records.proofs.Common.{IsUtf8-from_is_utf8, is_utf8-from_IsUtf8, Data, read, NotJson, data_of, of_value, max_len}
+use Rattle.ct_records.specs.Script.{script}
 
 none_if : (b : Bool) (o : Option Data) → (b ≡ true → o ≡ None) → cond b o None ≡ None
 none_if true o h = h refl

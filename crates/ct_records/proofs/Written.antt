@@ -1,27 +1,19 @@
 -- The value of what is written says what the record says.
-use Rattle.std.proofs.Common.{◌≡◌, ℕ, ◌+◌, ◌*◌, ◌≤◌, Bool, true, false, List, [], ◌∷◌, length, codes, decimal, Some, None, Ok, refl}
-use Rattle.std.proofs.Common.{sym, ap, ◌∙◌, arith}
-use Rattle.std.proofs.Common.{le-leb}
-use Rattle.std.specs.Prelude.{◌==◌, All}
-use Rattle.std.proofs.lemmas.List.Elements.{All-head, All-tail}
-use Rattle.serde_json.specs.Data.{number, unsigned}
-use Rattle.ct_names.specs.declared.command.Command.{Command}
-use Rattle.ct_names.specs.declared.limit.TheConstants.{MAX_BOUND}
-use Rattle.ct_model.specs.declared.step.Step.{Step}
-use Rattle.ct_model.specs.declared.step.Step.TheVariants.{Follow}
-use Rattle.ct_model.specs.Rehearsal.{Rehearsal}
-use Rattle.ct_model.specs.StepText as steps
-use Rattle.ct_model.specs.StepText.{Rest, nothing, command, amount, largest, command_entry, step_entry}
-use Rattle.ct_records.specs.Fits.{CommandFits, RestFits, StepFits, AllFit, IsStorable}
+use Rattle.ct_records.proofs.Common.{◌≡◌, ℕ, ◌+◌, ◌*◌, ◌≤◌, Bool, true, false, List, [], ◌∷◌, length, codes, decimal, Some, None, Ok, refl}
+use Rattle.ct_records.proofs.Common.{sym, ap, ◌∙◌, arith, le-leb, ◌==◌, All, All-head, All-tail, number, unsigned, Command, MAX_BOUND, Step}
+use Rattle.ct_records.proofs.Common.{Follow, Rehearsal, Rest, nothing, command, amount, command_entry, step_entry, CommandFits, RestFits}
+use Rattle.ct_records.proofs.Common.{StepFits, AllFit, IsStorable, since, list_of, script, entry_data, command_data, rest_data, step_data}
+use Rattle.ct_records.proofs.Common.{steps_data, record_data}
+use Rattle.ct_model.specs.StepText.{largest}
 use Rattle.ct_records.specs.Text.{record_text}
 use Rattle.ct_records.specs.Script.{whole_of, named_command, command_of, named, short_step, numbered_step, commanded_step, long_step}
-use Rattle.ct_records.specs.Script.{step_of, since, step_in, bound_in, steps_of, rehearsal_in, of_value, list_of, rest_fits, script}
-use Rattle.ct_records.proofs.Lengths as lengths
+use Rattle.ct_records.specs.Script.{step_of, step_in, bound_in, steps_of, rehearsal_in, of_value, rest_fits}
 use Rattle.ct_records.proofs.Lengths.{Text}
 use Rattle.ct_records.proofs.Names.{alike, step_found, command_found}
-use Rattle.ct_records.specs.Values.{entry_data, command_data, rest_data, step_data, steps_data, record_data}
 use Rattle.ct_records.proofs.Stored.{whole_text, record_reads, amount_fits, steps_width}
 use Rattle.ct_records.proofs.Whole.{script_read}
+use Rattle.ct_model.specs.StepText as steps
+use Rattle.ct_records.proofs.Lengths as lengths
 
 -- ---- the text is short
 

@@ -1,7 +1,4 @@
-use Rattle.std.proofs.Common.{ℕ, List, Some}
-use Rattle.ct_model.specs.declared.step.Step.{Step}
-use Rattle.ct_records.specs.Members.{IsPast}
-use Rattle.ct_records.specs.Members.{members_with}
+use Rattle.ct_records.proofs.Common.{ℕ, List, Some, Step, IsPast, members_with}
 use Rattle.ct_records.proofs.head.with_later.Given as goal
 
 abbrev pub invariant-loop : goal.invariant-loop

@@ -1,7 +1,4 @@
-use Rattle.std.proofs.Common.{◌≡◌, ◌+◌}
-use Rattle.std.specs.Prelude.{drop, map}
-use Rattle.serde_json.specs.View.{view}
-use Rattle.ct_records.specs.Script.{steps_of}
+use Rattle.ct_records.proofs.Common.{◌≡◌, ◌+◌, drop, map, view, steps_of}
 use Rattle.ct_records.proofs.Loops.{with_front}
 use Rattle.ct_records.proofs.reading.steps.Given as goal
 

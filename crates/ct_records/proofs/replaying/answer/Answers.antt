@@ -1,6 +1,4 @@
-use Rattle.ct_records.specs.ProgramFault.{IsOfReplayFault}
-use Rattle.ct_records.specs.Replay.{IsFaultIn}
-use Rattle.ct_records.specs.View.{rehearsal_of}
+use Rattle.ct_records.proofs.Common.{IsOfReplayFault, IsFaultIn, rehearsal_of}
 use Rattle.ct_records.proofs.Refused.{err_seen, replay_refused}
 use Rattle.ct_records.proofs.replaying.answer.Goals as goal
 

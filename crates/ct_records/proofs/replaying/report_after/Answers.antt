@@ -1,7 +1,4 @@
-use Rattle.std.proofs.Common.{◌≡◌, ap, subst, ◌∙◌}
-use Rattle.ct_world.specs.World.{WorldView}
-use Rattle.ct_records.specs.Outcome.{IsOutcome}
-use Rattle.ct_records.specs.Report.{report_text}
+use Rattle.ct_records.proofs.Common.{◌≡◌, ap, subst, ◌∙◌, WorldView, IsOutcome, report_text}
 use Rattle.ct_records.proofs.Answered.{report_is}
 use Rattle.ct_records.proofs.replaying.report_after.Goals as goal
 

@@ -1,11 +1,8 @@
-use Rattle.std.proofs.Common.{◌≡◌, Ok, ap, arith}
-use Rattle.std.specs.Prelude.{IfSome}
-use Rattle.ct_records.specs.Script.{script}
-use Rattle.ct_records.specs.Front.{IsReadOf}
+use Rattle.ct_records.proofs.Common.{◌≡◌, Ok, ap, arith, IfSome, script, IsReadOf}
+use Rattle.std.proofs.lemmas.Result.{IfErr-weaker, IfOk-weaker}
 use Rattle.ct_records.proofs.Answered.{fault_in, memory_in, report_in, report_read}
 use Rattle.ct_records.proofs.Sources.{input_says, input_too_long}
 use Rattle.ct_records.proofs.replaying.report_of.Goals as goal
-use Rattle.std.proofs.lemmas.Result.{IfErr-weaker, IfOk-weaker}
 
 pub returns-in-Some-clause-ok : goal.returns-in-Some-clause-ok
 returns-in-Some-clause-ok g c =

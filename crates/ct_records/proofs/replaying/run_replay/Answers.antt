@@ -1,7 +1,5 @@
-use Rattle.std.specs.Prelude.{◌≡◌, IfSome}
-use Rattle.std.specs.Io.KnownBytes.{Appends}
+use Rattle.ct_records.proofs.Common.{◌≡◌, IfSome, Appends, IsFaultIn}
 use Rattle.ct_streams.specs.Streams.{WritesPart}
-use Rattle.ct_records.specs.Replay.{IsFaultIn}
 use Rattle.ct_records.proofs.Refused.{err_seen}
 use Rattle.ct_records.proofs.Answered.{told}
 use Rattle.ct_records.proofs.replaying.run_replay.Goals as goal

@@ -1,6 +1,4 @@
-use Rattle.std.proofs.Common.{◌≡◌, ◌++◌}
-use Rattle.std.specs.Prelude.{string_bytes}
-use Rattle.ct_records.specs.Report.{first_members}
+use Rattle.ct_records.proofs.Common.{◌≡◌, ◌++◌, string_bytes, first_members}
 use Rattle.ct_records.proofs.reporting.push_members.Given as goal
 
 abbrev pub invariant-loop-i : goal.invariant-loop-i

@@ -1,8 +1,5 @@
-use Rattle.std.proofs.Common.{◌≡◌, ◌++◌, [], refl, ap, subst, sym, ◌∙◌}
-use Rattle.ct_model.specs.Rehearsal.{Rehearsal}
-use Rattle.ct_records.specs.Text.{steps_text}
-use Rattle.ct_world.specs.World.{WorldView}
-use Rattle.ct_records.specs.Front.{HasDone, IsEnd, IsStaged, IsTextOf}
+use Rattle.ct_records.proofs.Common.{◌≡◌, ◌++◌, [], refl, ap, subst, sym, ◌∙◌, Rehearsal, steps_text, WorldView, HasDone, IsEnd, IsStaged}
+use Rattle.ct_records.proofs.Common.{IsTextOf}
 use Rattle.ct_records.proofs.Started.{read_part, read_whole}
 use Rattle.ct_records.proofs.Texts.{text_none}
 use Rattle.ct_records.proofs.running.run_staged.Goals as goal

@@ -1,10 +1,6 @@
-use Rattle.std.proofs.Common.{◌-◌, ◌++◌, ◌∙◌, [], length, drop, ap, arith, subst, sym}
-use Rattle.std.proofs.lemmas.List.{length-drop, take_all}
+use Rattle.ct_records.proofs.Common.{◌-◌, ◌++◌, ◌∙◌, [], length, drop, ap, arith, subst, sym, length-drop, take_all, AllFit, AreKept}
+use Rattle.ct_records.proofs.Common.{IsTextOf, Taken, AreAll, rehearsal_of}
 use Rattle.ct_records.proofs.Lexemes.{if_some}
-use Rattle.ct_records.specs.Fits.{AllFit}
-use Rattle.ct_records.specs.Front.{AreKept, IsTextOf, Taken}
-use Rattle.ct_records.specs.Members.{AreAll}
-use Rattle.ct_records.specs.View.{rehearsal_of}
 use Rattle.ct_records.proofs.Ended.{says_all}
 use Rattle.ct_records.proofs.Texts.{text_none}
 use Rattle.ct_records.proofs.scanning.scanned.Goals as goal

@@ -1,9 +1,6 @@
-use Rattle.std.proofs.Common.{◌≡◌, ℕ, ◌+◌, ◌-◌, List, ◌++◌, length, take, ap, ◌∙◌, arith}
-use Rattle.std.specs.Prelude.{drop}
+use Rattle.ct_records.proofs.Common.{◌≡◌, ℕ, ◌+◌, ◌-◌, List, ◌++◌, length, take, ap, ◌∙◌, arith, drop, length-drop, take-append_seam}
 use Rattle.std.specs.List.{copy_within}
-use Rattle.std.proofs.lemmas.List.{length-drop}
 use Rattle.std.proofs.lemmas.List.Edits.{paste_all}
-use Rattle.std.proofs.Math.Seq.{take-append_seam}
 use Rattle.ct_records.proofs.so_far.drop_first.Goals as goal
 
 moved : (xs : List ℕ) (n k end : ℕ) → end ≡ length xs → k ≡ length xs - n → take k (copy_within xs n end 0) ≡ drop n xs

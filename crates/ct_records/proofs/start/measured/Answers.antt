@@ -1,5 +1,4 @@
-use Rattle.std.proofs.Common.{sym, subst}
-use Rattle.ct_records.specs.Members.{IsHead}
+use Rattle.ct_records.proofs.Common.{sym, subst, IsHead}
 use Rattle.ct_records.proofs.Fronts.{first_is}
 use Rattle.ct_records.proofs.start.measured.Goals as goal
 

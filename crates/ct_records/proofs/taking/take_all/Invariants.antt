@@ -1,5 +1,4 @@
-use Rattle.std.proofs.Common.{◌≤◌, length}
-use Rattle.ct_records.specs.Front.{AreTaken, IsAfter}
+use Rattle.ct_records.proofs.Common.{◌≤◌, length, AreTaken, IsAfter}
 use Rattle.ct_records.proofs.taking.take_all.Given as goal
 
 abbrev pub invariant-loop : goal.invariant-loop

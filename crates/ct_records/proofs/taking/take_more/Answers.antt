@@ -1,5 +1,4 @@
-use Rattle.std.proofs.Common.{◌-◌, ◌∙◌, length, take, drop, arith}
-use Rattle.std.proofs.lemmas.List.{length-drop, take_all}
+use Rattle.ct_records.proofs.Common.{◌-◌, ◌∙◌, length, take, drop, arith, length-drop, take_all}
 use Rattle.ct_records.proofs.Sources.{done_read}
 use Rattle.ct_records.proofs.taking.take_more.Goals as goal
 

@@ -1,6 +1,4 @@
-use Rattle.std.proofs.Common.{◌≡◌, ◌≤◌}
-use Rattle.std.specs.Prelude.{vec_len}
-use Rattle.ct_records.specs.Front.{AreDone}
+use Rattle.ct_records.proofs.Common.{◌≡◌, ◌≤◌, vec_len, AreDone}
 use Rattle.ct_records.proofs.taking.take_steps.Given as goal
 
 abbrev pub invariant-loop : goal.invariant-loop

@@ -1,7 +1,5 @@
-use Rattle.std.specs.Prelude.{string_bytes, map}
-use Rattle.ct_model.specs.StepText.{step_text}
+use Rattle.ct_records.proofs.Common.{string_bytes, map, step_text, join_starts, join_goes}
 use Rattle.ct_records.proofs.Fitting.{fit_more, fit_all}
-use Rattle.ct_text.proofs.Joins.{join_starts, join_goes}
 use Rattle.ct_records.proofs.writing.push_steps.Goals as goal
 
 pub loop-i-init : goal.loop-i-init

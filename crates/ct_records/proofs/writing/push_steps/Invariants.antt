@@ -1,9 +1,4 @@
-use Rattle.std.proofs.Common.{◌≡◌, ◌++◌, take}
-use Rattle.std.specs.Prelude.{drop, map, nat_lt, string_bytes}
-use Rattle.ct_records.specs.Fits.{AllFit}
-use Rattle.ct_model.specs.StepText.{step_text}
-use Rattle.ct_records.specs.Text.{steps_text}
-use Rattle.ct_text.proofs.Joins.{rest_of}
+use Rattle.ct_records.proofs.Common.{◌≡◌, ◌++◌, take, drop, map, nat_lt, string_bytes, AllFit, step_text, steps_text, rest_of}
 use Rattle.ct_records.proofs.writing.push_steps.Given as goal
 
 abbrev pub invariant-loop-i : goal.invariant-loop-i

@@ -1,5 +1,4 @@
-use Rattle.std.proofs.Common.{Result, Ok, Err}
-use Rattle.std.specs.Prelude.{IfOk, OnOk}
+use Rattle.ct_records.proofs.Common.{Result, Ok, Err, IfOk, OnOk}
 use Rattle.ct_records.proofs.Written.{round_trip}
 use Rattle.ct_records.proofs.writing.write_record.Goals as goal
 

@@ -1,5 +1,4 @@
-use Rattle.std.proofs.Common.{◌≡◌, ◌≤◌, ◌-◌}
-use Rattle.ct_records.specs.Front.{Advances}
+use Rattle.ct_records.proofs.Common.{◌≡◌, ◌≤◌, ◌-◌, Advances}
 use Rattle.ct_records.proofs.input.Input.read_up_to.Given as goal
 
 abbrev pub invariant-loop-self : goal.invariant-loop-self

@@ -1,5 +1,4 @@
-use Rattle.std.proofs.Common.{◌++◌, ◌∷◌, ◌∙◌, [], ap}
-use Rattle.ct_model.specs.Rehearsal.{Rehearsal}
+use Rattle.ct_records.proofs.Common.{◌++◌, ◌∷◌, ◌∙◌, [], ap, Rehearsal}
 use Rattle.ct_records.proofs.Allowed.{begun_more}
 use Rattle.ct_records.proofs.keeper.StageKeeper.take.Goals as goal
 

@@ -1,9 +1,4 @@
-use Rattle.std.proofs.Common.{◌≡◌, ◌≤◌, List, Some, refl, ap, subst, ◌∙◌, length, arith}
-use Rattle.std.specs.Prelude.{All}
-use Rattle.ct_names.specs.declared.limit.TheConstants.{MAX_STEPS}
-use Rattle.ct_model.specs.declared.step.Step.{Step}
-use Rattle.ct_records.specs.Members.{IsBound}
-use Rattle.ct_records.specs.Script.{since}
+use Rattle.ct_records.proofs.Common.{◌≡◌, ◌≤◌, List, Some, refl, ap, subst, ◌∙◌, length, arith, All, MAX_STEPS, Step, IsBound, since}
 use Rattle.ct_records.proofs.Members.{parts_say}
 use Rattle.ct_records.proofs.numbers.Numbers.are_of.Goals as goal
 

@@ -1,5 +1,4 @@
-use Rattle.std.proofs.Common.{Some, rules, refl, arith}
-use Rattle.ct_model.specs.Rehearsal.{Rehearsal}
+use Rattle.ct_records.proofs.Common.{Some, rules, refl, arith, Rehearsal}
 use Rattle.ct_records.proofs.Members.{parts_say}
 use Rattle.ct_records.proofs.numbers.Numbers.script.Goals as goal
 

@@ -1,6 +1,5 @@
-use Rattle.std.proofs.Common.{◌≡◌, ◌+◌, ◌-◌, ◌<◌, ◌++◌, length, take, drop, ap, sym, ◌∙◌, arith}
-use Rattle.std.proofs.lemmas.List.{take-append-drop, take_all, length-drop}
-use Rattle.std.proofs.lemmas.Bool.Decides.{nat_tests}
+use Rattle.ct_records.proofs.Common.{◌≡◌, ◌+◌, ◌-◌, ◌<◌, ◌++◌, length, take, drop, ap, sym, ◌∙◌, arith, take-append-drop, take_all}
+use Rattle.ct_records.proofs.Common.{length-drop, nat_tests}
 use Rattle.ct_records.proofs.Lexemes.{digit_first, digit_joins}
 use Rattle.ct_records.proofs.scan.numbers.digits.Goals as goal
 

@@ -1,5 +1,4 @@
-use Rattle.std.proofs.Common.{true, subst, sym}
-use Rattle.ct_records.specs.Reading.{ReadsStep}
+use Rattle.ct_records.proofs.Common.{true, subst, sym, ReadsStep}
 use Rattle.ct_records.proofs.Steps.{named_step}
 use Rattle.ct_records.proofs.scan.quick.quick_step.Goals as goal
 

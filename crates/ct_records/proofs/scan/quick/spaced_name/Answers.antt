@@ -1,5 +1,4 @@
-use Rattle.std.proofs.Common.{◌++◌, ◌∙◌, ap, codes}
-use Rattle.ct_records.specs.declared.scan.kind.Kind.TheVariants.{Receive, Postpone}
+use Rattle.ct_records.proofs.Common.{◌++◌, ◌∙◌, ap, codes, Receive, Postpone}
 use Rattle.ct_records.proofs.Steps.{named_reads}
 use Rattle.ct_records.proofs.scan.quick.spaced_name.Goals as goal
 

@@ -1,5 +1,4 @@
-use Rattle.std.proofs.Common.{◌-◌, length, drop, arith, sym}
-use Rattle.std.proofs.lemmas.List.{length-drop, take_all}
+use Rattle.ct_records.proofs.Common.{◌-◌, length, drop, arith, sym, length-drop, take_all}
 use Rattle.ct_records.proofs.Fronts.{white_all, white_at, white_more, white_nothing}
 use Rattle.ct_records.proofs.scan.spacing.skip_white.Goals as goal
 

@@ -1,5 +1,4 @@
-use Rattle.std.proofs.Common.{take}
-use Rattle.ct_records.specs.Reading.{IsWhite}
+use Rattle.ct_records.proofs.Common.{take, IsWhite}
 use Rattle.ct_records.proofs.scan.spacing.skip_white.Given as goal
 
 abbrev pub invariant-loop-i : goal.invariant-loop-i

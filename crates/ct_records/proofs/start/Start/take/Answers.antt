@@ -1,6 +1,4 @@
-use Rattle.std.proofs.Common.{◌≡◌, ◌∙◌, ap, subst, sym, take}
-use Rattle.ct_records.specs.Members.{IsHead}
-use Rattle.ct_records.specs.Reading.{IsAscii}
+use Rattle.ct_records.proofs.Common.{◌≡◌, ◌∙◌, ap, subst, sym, take, IsHead, IsAscii}
 use Rattle.ct_records.proofs.Utf8.{ascii_valid}
 use Rattle.ct_records.proofs.start.Start.take.Goals as goal
 
