@@ -1,16 +1,10 @@
 -- Objects that are written in parts.
-use Rattle.std.proofs.Common.{◌≡◌, ℕ, true, List, [], ◌∷◌, ◌++◌, Result, Ok, Err, refl, ap, sym, ◌∙◌, append_assoc, append-nil, subst}
-use Rattle.std.proofs.Common.{arith}
-use Rattle.std.specs.Prelude.{OnOk, codes, is_ok, if◌then◌else◌}
-use Rattle.json.specs.Print.{quoted}
-use Rattle.serde_json.specs.Data.{Data}
-use Rattle.serde_json.specs.Written.{compact_text, members_text}
-use Rattle.ct_model.specs.declared.step.Step.{Step}
-use Rattle.ct_model.specs.Rehearsal.{Rehearsal}
+use Rattle.ct_json.proofs.Common.{◌≡◌, ℕ, true, List, [], ◌∷◌, ◌++◌, Result, Ok, Err, refl, ap, sym, ◌∙◌, append_assoc, append-nil, subst}
+use Rattle.ct_json.proofs.Common.{arith, OnOk, codes, is_ok, if◌then◌else◌, quoted, Data, compact_text, members_text, Step, Rehearsal}
+use Rattle.ct_json.proofs.Common.{Field, IsPlain, fields_text, line_text, members_of, object_of, opened}
 use Rattle.ct_text.proofs.Pieces.{is_any}
 use Rattle.ct_json.specs.Json.{group_fields, standing_fields}
 use Rattle.ct_json.specs.JsonSteps.{head_fields}
-use Rattle.ct_json.specs.Fields.{Field, IsPlain, fields_text, line_text, members_of, object_of, opened}
 
 assoc_field : (k a b c : List ℕ) → k ++ 58 ∷ (a ++ (b ++ c)) ≡ (k ++ 58 ∷ (a ++ b)) ++ c
 assoc_field k a b c = simp append_assoc

@@ -1,17 +1,9 @@
 -- Arrays that are written value by value: what is left of one while its first values stand there.
-use Rattle.std.proofs.Common.{◌≡◌, ℕ, suc, ◌+◌, ◌-◌, ◌<◌, ◌≤◌, Bool, true, false, List, [], ◌∷◌, ◌++◌, Result, Ok, Err, refl, ap, sym}
-use Rattle.std.proofs.Common.{◌∙◌}
-use Rattle.std.proofs.Common.{append_assoc, append-nil, arith, length, get_or, add-one, drop, map}
-use Rattle.std.specs.Prelude.{OnOk, codes, flat_map, is_ok, if◌then◌else◌}
+use Rattle.ct_json.proofs.Common.{◌≡◌, ℕ, suc, ◌+◌, ◌-◌, ◌<◌, ◌≤◌, Bool, true, false, List, [], ◌∷◌, ◌++◌, Result, Ok, Err, refl, ap, sym}
+use Rattle.ct_json.proofs.Common.{◌∙◌, append_assoc, append-nil, arith, length, get_or, add-one, drop, map, OnOk, codes, flat_map, is_ok}
+use Rattle.ct_json.proofs.Common.{if◌then◌else◌, quoted, Data, comma_if, compact_text, items_text, Set, counting, Step, Submit, array_of}
+use Rattle.ct_json.proofs.Common.{fields_text, items_of}
 use Rattle.std.proofs.Math.Seq.{drop-cons}
-use Rattle.json.specs.Print.{quoted}
-use Rattle.serde_json.specs.Data.{Data}
-use Rattle.serde_json.specs.Written.{comma_if, compact_text, items_text}
-use Rattle.ct_names.specs.Group.{counting}
-use Rattle.ct_json.specs.Fields.{array_of, fields_text, items_of}
-use Rattle.ct_names.specs.declared.command.Command.TheVariants.{Set}
-use Rattle.ct_model.specs.declared.step.Step.{Step}
-use Rattle.ct_model.specs.declared.step.Step.TheVariants.{Submit}
 
 -- the text becomes the whole one by these values, and the bracket that closes the array
 pub record IsLeft (values : List Data) (later : Bool) (now whole : List ℕ) : Type 0 where

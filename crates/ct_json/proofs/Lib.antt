@@ -1,3 +1,4 @@
+pub mod Common
 mod Fields
 mod Left
 mod Texts

@@ -1,26 +1,16 @@
 -- Names, messages, refusals and steps are written as the values that they are.
-use Rattle.std.proofs.Common.{◌≡◌, ℕ, List, [], ◌∷◌, ◌++◌, codes, decimal, Option, Some, None, refl, ap, ap₂}
-use Rattle.std.proofs.Common.{◌∙◌, append_assoc, append-nil, arith}
+use Rattle.ct_json.proofs.Common.{◌≡◌, ℕ, List, [], ◌∷◌, ◌++◌, codes, decimal, Option, Some, None, refl, ap, ap₂, ◌∙◌, append_assoc}
+use Rattle.ct_json.proofs.Common.{append-nil, arith, compact_text, Set, message_text, refusal_text, Step, Submit, Suspect, step_entry}
+use Rattle.ct_json.proofs.Common.{command_data, step_data, next_between, phase_text, IsPlain, array_by, next_steps}
 use Rattle.json.proofs.OnLiterals.{json_on_literals}
-use Rattle.serde_json.specs.Written.{compact_text}
 use Rattle.ct_names.specs.declared.command.Command.{Command}
-use Rattle.ct_names.specs.declared.command.Command.TheVariants.{Set}
 use Rattle.ct_names.specs.declared.limit.Limit.TheVariants.{Submissions}
 use Rattle.ct_names.specs.declared.refusal.Refusal.{Refusal}
 use Rattle.ct_names.specs.declared.refusal.Refusal.TheVariants.{Full}
 use Rattle.ct_names.specs.Message.{Message}
-use Rattle.ct_names.specs.MessageText.{message_text}
-use Rattle.ct_names.specs.RefusalText.{refusal_text}
 use Rattle.ct_model.specs.declared.phase.Phase.{Phase}
 use Rattle.ct_model.specs.declared.phase.Phase.TheVariants.{Rest}
-use Rattle.ct_model.specs.declared.step.Step.{Step}
-use Rattle.ct_model.specs.declared.step.Step.TheVariants.{Submit, Suspect}
-use Rattle.ct_model.specs.StepText.{command_text, step_entry, step_text}
-use Rattle.ct_records.specs.Values.{command_data, step_data}
-use Rattle.ct_show.specs.State.{next_between}
-use Rattle.ct_text.specs.Shapes.{phase_text}
-use Rattle.ct_json.specs.Fields.{IsPlain, array_by}
-use Rattle.ct_json.specs.JsonState.{next_steps}
+use Rattle.ct_model.specs.StepText.{command_text, step_text}
 use Rattle.ct_json.proofs.Unescaped.{both_self, decimal_self, quoted_self}
 
 pub message_plain : (m : Message) → IsPlain (message_text m)

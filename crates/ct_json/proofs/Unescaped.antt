@@ -1,10 +1,9 @@
 -- Bytes that stand for themselves in a string, and values whose text has no line feed.
-use Rattle.std.proofs.Common.{◌≡◌, ℕ, zero, suc, ◌+◌, ◌%◌, ◌/◌, ◌≤◌, ◌==◌, Bool, true, false, cond, List, [], ◌∷◌, ◌++◌, decimal, refl}
-use Rattle.std.proofs.Common.{ap, arith}
+use Rattle.ct_json.proofs.Common.{◌≡◌, ℕ, zero, suc, ◌+◌, ◌%◌, ◌/◌, ◌≤◌, ◌==◌, Bool, true, false, cond, List, [], ◌∷◌, ◌++◌, decimal, refl}
+use Rattle.ct_json.proofs.Common.{ap, arith, escape, quoted}
 use Rattle.std.proofs.lemmas.Bool.{lt-ltb}
 use Rattle.std.specs.Prelude.{⊤}
 use Rattle.std.specs.Fmt.{digits, digits_onto, digit_glyph}
-use Rattle.json.specs.Print.{escape, quoted}
 use Rattle.json.proofs.Printed.Strings.{escape_byte_plain}
 
 -- neither a quotation mark nor a backslash nor a control byte

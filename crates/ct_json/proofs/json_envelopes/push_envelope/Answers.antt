@@ -1,10 +1,7 @@
-use Rattle.std.proofs.Common.{refl}
-use Rattle.std.specs.Prelude.{List, [], ◌∷◌, ◌++◌, codes, decimal, string_bytes}
+use Rattle.ct_json.proofs.Common.{refl, List, [], ◌∷◌, ◌++◌, codes, decimal, string_bytes, num, pushed_value, Field, sender_fields}
+use Rattle.ct_json.proofs.Common.{carried_fields}
 use Rattle.json.proofs.OnLiterals.{json_on_literals}
-use Rattle.ct_records.specs.Values.{num}
-use Rattle.ct_text.proofs.Pushed.{pushed_value}
-use Rattle.ct_json.specs.Fields.{Field}
-use Rattle.ct_json.specs.JsonEnvelopes.{envelope_by, sender_fields, carried_fields}
+use Rattle.ct_json.specs.JsonEnvelopes.{envelope_by}
 use Rattle.ct_json.proofs.Fields.{then_closed, then_fields, then_opened}
 use Rattle.ct_json.proofs.json_envelopes.push_envelope.Goals as goal
 

@@ -1,9 +1,7 @@
-use Rattle.std.specs.Prelude.{[], ◌∷◌, ◌++◌, codes, decimal, string_bytes}
+use Rattle.ct_json.proofs.Common.{[], ◌∷◌, ◌++◌, codes, decimal, string_bytes, compact_text, messages_value, pushed_last}
 use Rattle.json.proofs.OnLiterals.{json_on_literals}
-use Rattle.serde_json.specs.Written.{compact_text}
-use Rattle.ct_json.specs.Json.{messages_at, messages_value}
+use Rattle.ct_json.specs.Json.{messages_at}
 use Rattle.ct_json.specs.JsonEnvelopes.{estimate_fields}
-use Rattle.ct_text.proofs.Pushed.{pushed_last}
 use Rattle.ct_json.proofs.json_envelopes.push_estimate.Goals as goal
 
 pub returns : goal.returns

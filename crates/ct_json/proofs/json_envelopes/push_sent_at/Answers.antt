@@ -1,10 +1,8 @@
-use Rattle.std.proofs.Common.{◌≡◌, ◌+◌, ◌-◌, ◌<◌, ap₂, arith, length, map, refl}
-use Rattle.std.specs.Prelude.{codes, string_bytes}
+use Rattle.ct_json.proofs.Common.{◌≡◌, ◌+◌, ◌-◌, ◌<◌, ap₂, arith, length, map, refl, codes, string_bytes, counting, state_of}
+use Rattle.ct_json.proofs.Common.{envelope_value}
 use Rattle.json.proofs.OnLiterals.{json_on_literals}
-use Rattle.ct_names.specs.Group.{counting}
-use Rattle.ct_model.specs.Rehearsal.{state_of}
-use Rattle.ct_json.specs.JsonEnvelopes.{envelope_value, sent_fields}
-use Rattle.ct_json.proofs.Left.{counting_next, counting_none, field_left, map_one, map_end}
+use Rattle.ct_json.specs.JsonEnvelopes.{sent_fields}
+use Rattle.ct_json.proofs.Left.{counting_next, counting_none, field_left, map_end, map_one}
 use Rattle.ct_json.proofs.json_envelopes.push_sent_at.Goals as goal
 
 pub loop-i-init : goal.loop-i-init

@@ -1,9 +1,4 @@
-use Rattle.std.proofs.Common.{◌+◌, ◌-◌, ◌++◌, length, map}
-use Rattle.std.specs.Prelude.{string_bytes}
-use Rattle.ct_names.specs.Group.{counting}
-use Rattle.ct_model.specs.Rehearsal.{state_of}
-use Rattle.ct_json.specs.Fields.{fields_text}
-use Rattle.ct_json.specs.JsonEnvelopes.{envelope_value, sent_fields}
+use Rattle.ct_json.proofs.Common.{◌+◌, ◌-◌, ◌++◌, length, map, string_bytes, counting, state_of, fields_text, envelope_value, sent_fields}
 use Rattle.ct_json.proofs.Left.{IsLeft}
 use Rattle.ct_json.proofs.json_envelopes.push_sent_at.Given as goal
 

@@ -1,10 +1,6 @@
-use Rattle.std.proofs.Common.{append-nil}
-use Rattle.std.specs.Prelude.{List, [], ◌∷◌, ◌++◌, codes, string_bytes}
+use Rattle.ct_json.proofs.Common.{append-nil, List, [], ◌∷◌, ◌++◌, codes, string_bytes, num, Field, messages_at, estimate_fields}
 use Rattle.json.proofs.OnLiterals.{json_on_literals}
-use Rattle.ct_records.specs.Values.{num}
-use Rattle.ct_json.specs.Fields.{Field}
-use Rattle.ct_json.specs.Json.{messages_at}
-use Rattle.ct_json.specs.JsonEnvelopes.{estimate_fields, vote_fields, wire_fields}
+use Rattle.ct_json.specs.JsonEnvelopes.{vote_fields, wire_fields}
 use Rattle.ct_json.proofs.Fields.{then_last}
 use Rattle.ct_json.proofs.json_envelopes.push_wire.Goals as goal
 

@@ -1,11 +1,10 @@
-use Rattle.std.proofs.Common.{◌+◌, ◌<◌, ap, arith, refl, sym}
-use Rattle.std.specs.Prelude.{codes, flat_map, string_bytes}
+use Rattle.ct_json.proofs.Common.{◌+◌, ◌<◌, ap, arith, refl, sym, codes, flat_map, string_bytes, counting, heard_if, heard_values}
 use Rattle.json.proofs.OnLiterals.{json_on_literals}
-use Rattle.ct_names.specs.Group.{counting, members}
-use Rattle.ct_json.specs.JsonParts.{heard_fields, heard_if, heard_values}
-use Rattle.ct_json.proofs.Left.{counting_all, counting_next, counting_none, field_left, flat_none, flat_one, flat_end}
-use Rattle.ct_json.proofs.json_parts.push_all_heard.Goals as goal
+use Rattle.ct_names.specs.Group.{members}
+use Rattle.ct_json.specs.JsonParts.{heard_fields}
+use Rattle.ct_json.proofs.Left.{counting_all, counting_next, counting_none, field_left, flat_end, flat_none, flat_one}
 use Rattle.ct_json.proofs.json_parts.push_all_heard.Goals.{in-Some+in_ok-push_separator+in_ok-push_heard, in_default}
+use Rattle.ct_json.proofs.json_parts.push_all_heard.Goals as goal
 
 pub loop-i-init : goal.loop-i-init
 unfolding heard_fields members json_on_literals

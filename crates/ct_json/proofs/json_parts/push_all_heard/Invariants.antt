@@ -1,8 +1,4 @@
-use Rattle.std.proofs.Common.{◌+◌, ◌-◌, ◌++◌}
-use Rattle.std.specs.Prelude.{flat_map, string_bytes}
-use Rattle.ct_names.specs.Group.{counting}
-use Rattle.ct_json.specs.Fields.{fields_text}
-use Rattle.ct_json.specs.JsonParts.{heard_fields, heard_values}
+use Rattle.ct_json.proofs.Common.{◌+◌, ◌-◌, ◌++◌, flat_map, string_bytes, counting, fields_text, heard_fields, heard_values}
 use Rattle.ct_json.proofs.Left.{IsLeft}
 use Rattle.ct_json.proofs.json_parts.push_all_heard.Given as goal
 

@@ -1,10 +1,5 @@
-use Rattle.std.proofs.Common.{refl}
-use Rattle.std.specs.Prelude.{List, [], ◌∷◌, ◌++◌, codes, decimal, string_bytes}
+use Rattle.ct_json.proofs.Common.{refl, List, [], ◌∷◌, ◌++◌, codes, decimal, string_bytes, num, pushed_value, Field, estimate_fields}
 use Rattle.json.proofs.OnLiterals.{json_on_literals}
-use Rattle.ct_records.specs.Values.{num}
-use Rattle.ct_text.proofs.Pushed.{pushed_value}
-use Rattle.ct_json.specs.Fields.{Field}
-use Rattle.ct_json.specs.JsonEnvelopes.{estimate_fields}
 use Rattle.ct_json.specs.JsonParts.{heard_value}
 use Rattle.ct_json.proofs.Fields.{then_closed, then_opened}
 use Rattle.ct_json.proofs.json_parts.push_heard.Goals as goal

@@ -1,7 +1,5 @@
-use Rattle.std.proofs.Common.{ap}
-use Rattle.std.specs.Prelude.{◌++◌, codes, decimal, string_bytes}
+use Rattle.ct_json.proofs.Common.{ap, ◌++◌, codes, decimal, string_bytes, phase_text}
 use Rattle.json.proofs.OnLiterals.{json_on_literals}
-use Rattle.ct_text.specs.Shapes.{phase_text}
 use Rattle.ct_json.specs.JsonParts.{phase_fields}
 use Rattle.ct_json.proofs.Fields.{quoted_is, then_same}
 use Rattle.ct_json.proofs.Texts.{phase_plain}

@@ -1,11 +1,9 @@
-use Rattle.std.proofs.Common.{◌+◌, ◌∷◌, [], ap, arith, cond, refl, sym, ◌∙◌}
-use Rattle.std.specs.Prelude.{flat_map, string_bytes}
-use Rattle.ct_names.specs.Group.{counting, members}
-use Rattle.ct_records.specs.Values.{num}
-use Rattle.ct_json.specs.JsonParts.{set_value, set_values}
-use Rattle.ct_json.proofs.Left.{array_left, counting_next, counting_none, flat_none, flat_one, flat_end}
-use Rattle.ct_json.proofs.json_parts.push_set.Goals as goal
+use Rattle.ct_json.proofs.Common.{◌+◌, ◌∷◌, [], ap, arith, cond, refl, sym, ◌∙◌, flat_map, string_bytes, counting, num, set_values}
+use Rattle.ct_names.specs.Group.{members}
+use Rattle.ct_json.specs.JsonParts.{set_value}
+use Rattle.ct_json.proofs.Left.{array_left, counting_next, counting_none, flat_end, flat_none, flat_one}
 use Rattle.ct_json.proofs.json_parts.push_set.Goals.{then-contains+in_ok-push_separator+in_ok-write, else-contains}
+use Rattle.ct_json.proofs.json_parts.push_set.Goals as goal
 
 pub loop-i-init : goal.loop-i-init
 unfolding set_value members

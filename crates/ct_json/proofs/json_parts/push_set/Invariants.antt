@@ -1,8 +1,4 @@
-use Rattle.std.proofs.Common.{◌+◌, ◌-◌, ◌++◌}
-use Rattle.std.specs.Prelude.{flat_map, string_bytes}
-use Rattle.serde_json.specs.Written.{compact_text}
-use Rattle.ct_names.specs.Group.{counting}
-use Rattle.ct_json.specs.JsonParts.{set_value, set_values}
+use Rattle.ct_json.proofs.Common.{◌+◌, ◌-◌, ◌++◌, flat_map, string_bytes, compact_text, counting, set_value, set_values}
 use Rattle.ct_json.proofs.Left.{IsLeft}
 use Rattle.ct_json.proofs.json_parts.push_set.Given as goal
 

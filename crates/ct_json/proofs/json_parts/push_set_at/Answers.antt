@@ -1,5 +1,4 @@
-use Rattle.std.specs.Prelude.{string_bytes}
-use Rattle.ct_json.specs.JsonParts.{set_value}
+use Rattle.ct_json.proofs.Common.{string_bytes, set_value}
 use Rattle.ct_json.proofs.Fields.{then_value}
 use Rattle.ct_json.proofs.json_parts.push_set_at.Goals as goal
 

@@ -1,5 +1,4 @@
-use Rattle.std.proofs.Common.{◌≡◌}
-use Rattle.ct_show.specs.State.{first_choices}
+use Rattle.ct_json.proofs.Common.{◌≡◌, first_choices}
 use Rattle.ct_json.proofs.json_state.choices.Given as goal
 
 abbrev pub invariant-loop-i : goal.invariant-loop-i

@@ -1,13 +1,10 @@
-use Rattle.std.proofs.Common.{◌+◌, ◌++◌, ap, refl, sym, ◌∙◌}
-use Rattle.std.specs.Prelude.{codes, flat_map, string_bytes}
+use Rattle.ct_json.proofs.Common.{◌+◌, ◌++◌, ap, refl, sym, ◌∙◌, codes, flat_map, string_bytes, drop_all, step_data, enabled_values}
 use Rattle.json.proofs.OnLiterals.{json_on_literals}
-use Rattle.ct_records.specs.Values.{step_data}
-use Rattle.ct_json.specs.JsonState.{enabled_fields, enabled_values}
-use Rattle.ct_json.proofs.Left.{field_left, flat_none, flat_one, first_step, flat_end, steps_next}
+use Rattle.ct_json.specs.JsonState.{enabled_fields}
+use Rattle.ct_json.proofs.Left.{field_left, first_step, flat_end, flat_none, flat_one, steps_next}
 use Rattle.ct_json.proofs.Texts.{step_same}
-use Rattle.ct_json.proofs.json_state.push_enabled.Goals as goal
 use Rattle.ct_json.proofs.json_state.push_enabled.Goals.{then-is_enabled+in_ok-push_separator+in_ok-write, else-is_enabled}
-use Rattle.std.proofs.lemmas.List.{drop_all}
+use Rattle.ct_json.proofs.json_state.push_enabled.Goals as goal
 
 pub loop-step-init : goal.loop-step-init
 unfolding enabled_fields json_on_literals

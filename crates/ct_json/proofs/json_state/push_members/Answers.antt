@@ -1,7 +1,6 @@
-use Rattle.std.proofs.Common.{◌+◌, ◌-◌, ◌++◌, ◌<◌, ◌≤◌, ap, append-nil, append_assoc, arith, map, sym, ◌∙◌}
-use Rattle.std.specs.Prelude.{string_bytes}
-use Rattle.ct_names.specs.Group.{counting, members}
-use Rattle.ct_json.specs.Fields.{line_text, lines_text}
+use Rattle.ct_json.proofs.Common.{◌+◌, ◌-◌, ◌++◌, ◌<◌, ◌≤◌, ap, append-nil, append_assoc, arith, map, sym, ◌∙◌, string_bytes, counting}
+use Rattle.ct_json.proofs.Common.{line_text, lines_text}
+use Rattle.ct_names.specs.Group.{members}
 use Rattle.ct_json.specs.JsonState.{member_value}
 use Rattle.ct_json.proofs.Left.{counting_all, counting_next, counting_none}
 use Rattle.ct_json.proofs.json_state.push_members.Goals as goal

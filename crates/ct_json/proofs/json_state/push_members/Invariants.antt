@@ -1,7 +1,4 @@
-use Rattle.std.proofs.Common.{◌≡◌, ◌+◌, ◌-◌, ◌++◌, map}
-use Rattle.std.specs.Prelude.{string_bytes}
-use Rattle.ct_names.specs.Group.{counting, members}
-use Rattle.ct_json.specs.Fields.{lines_text}
+use Rattle.ct_json.proofs.Common.{◌≡◌, ◌+◌, ◌-◌, ◌++◌, map, string_bytes, counting, members, lines_text}
 use Rattle.ct_json.specs.JsonState.{member_value}
 use Rattle.ct_json.proofs.json_state.push_members.Given as goal
 

@@ -1,12 +1,7 @@
-use Rattle.std.proofs.Common.{ap, append-nil, sym, ◌∙◌}
-use Rattle.std.specs.Prelude.{[], ◌∷◌, ◌++◌, codes, string_bytes}
+use Rattle.ct_json.proofs.Common.{ap, append-nil, sym, ◌∙◌, [], ◌∷◌, ◌++◌, codes, string_bytes, compact_text, step_data, next_between}
+use Rattle.ct_json.proofs.Common.{pushed_more, pushed_str, array_by, next_steps}
 use Rattle.json.proofs.OnLiterals.{json_on_literals}
-use Rattle.serde_json.specs.Written.{compact_text}
-use Rattle.ct_records.specs.Values.{step_data}
-use Rattle.ct_show.specs.State.{next_between}
-use Rattle.ct_text.proofs.Pushed.{pushed_more, pushed_str}
-use Rattle.ct_json.specs.Fields.{array_by}
-use Rattle.ct_json.specs.JsonState.{next_fields, next_steps}
+use Rattle.ct_json.specs.JsonState.{next_fields}
 use Rattle.ct_json.proofs.Fields.{then_same}
 use Rattle.ct_json.proofs.Texts.{next_same}
 use Rattle.ct_json.proofs.json_state.push_next.Goals as goal

@@ -1,7 +1,5 @@
-use Rattle.std.proofs.Common.{ap, ap₂, append_assoc, sym, ◌∙◌}
-use Rattle.std.specs.Prelude.{◌∷◌, ◌++◌, codes, string_bytes}
+use Rattle.ct_json.proofs.Common.{ap, ap₂, append_assoc, sym, ◌∙◌, ◌∷◌, ◌++◌, codes, string_bytes, refusal_text}
 use Rattle.json.proofs.OnLiterals.{json_on_literals}
-use Rattle.ct_names.specs.RefusalText.{refusal_text}
 use Rattle.ct_json.specs.JsonState.{refusal_value}
 use Rattle.ct_json.proofs.Fields.{then_same}
 use Rattle.ct_json.proofs.Texts.{refusal_plain, step_same}

@@ -1,11 +1,9 @@
-use Rattle.std.proofs.Common.{◌+◌, refl}
-use Rattle.std.specs.Prelude.{codes, flat_map, string_bytes}
+use Rattle.ct_json.proofs.Common.{◌+◌, refl, codes, flat_map, string_bytes, drop_all, refusal_value, refusal_values}
 use Rattle.json.proofs.OnLiterals.{json_on_literals}
-use Rattle.ct_json.specs.JsonState.{refusal_value, refusal_values, refused_fields}
-use Rattle.ct_json.proofs.Left.{field_left, flat_none, flat_one, first_step, flat_end, steps_next}
-use Rattle.ct_json.proofs.json_state.push_refused.Goals as goal
+use Rattle.ct_json.specs.JsonState.{refused_fields}
+use Rattle.ct_json.proofs.Left.{field_left, first_step, flat_end, flat_none, flat_one, steps_next}
 use Rattle.ct_json.proofs.json_state.push_refused.Goals.{in-Some+in_ok-push_separator+in_ok-push_refusal, in_default}
-use Rattle.std.proofs.lemmas.List.{drop_all}
+use Rattle.ct_json.proofs.json_state.push_refused.Goals as goal
 
 pub loop-step-init : goal.loop-step-init
 unfolding refused_fields json_on_literals

@@ -1,7 +1,4 @@
-use Rattle.std.proofs.Common.{◌++◌, drop}
-use Rattle.std.specs.Prelude.{flat_map, string_bytes}
-use Rattle.ct_json.specs.Fields.{fields_text}
-use Rattle.ct_json.specs.JsonState.{refused_fields, refusal_values}
+use Rattle.ct_json.proofs.Common.{◌++◌, drop, flat_map, string_bytes, fields_text, refused_fields, refusal_values}
 use Rattle.ct_json.proofs.Left.{IsLeft}
 use Rattle.ct_json.proofs.json_state.push_refused.Given as goal
 

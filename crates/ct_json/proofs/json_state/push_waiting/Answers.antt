@@ -1,12 +1,9 @@
-use Rattle.std.proofs.Common.{◌+◌, ◌++◌, ap, arith, get_or, lt-ltb, map, refl, ◌∙◌}
-use Rattle.std.specs.Prelude.{codes, string_bytes}
+use Rattle.ct_json.proofs.Common.{◌+◌, ◌++◌, ap, arith, get_or, lt-ltb, map, refl, ◌∙◌, codes, string_bytes, drop_all, compact_text}
+use Rattle.ct_json.proofs.Common.{envelope_by, waiting_value}
 use Rattle.json.proofs.OnLiterals.{json_on_literals}
-use Rattle.serde_json.specs.Written.{compact_text}
-use Rattle.ct_json.specs.JsonEnvelopes.{envelope_by}
-use Rattle.ct_json.specs.JsonState.{waiting_fields, waiting_value}
-use Rattle.ct_json.proofs.Left.{drop_or, field_left, map_one, map_end}
+use Rattle.ct_json.specs.JsonState.{waiting_fields}
+use Rattle.ct_json.proofs.Left.{drop_or, field_left, map_end, map_one}
 use Rattle.ct_json.proofs.json_state.push_waiting.Goals as goal
-use Rattle.std.proofs.lemmas.List.{drop_all}
 
 pub loop-i-init : goal.loop-i-init
 unfolding waiting_fields json_on_literals

@@ -1,7 +1,4 @@
-use Rattle.std.proofs.Common.{◌++◌, drop, map}
-use Rattle.std.specs.Prelude.{nat_lt, string_bytes}
-use Rattle.ct_json.specs.Fields.{fields_text}
-use Rattle.ct_json.specs.JsonState.{waiting_fields, waiting_value}
+use Rattle.ct_json.proofs.Common.{◌++◌, drop, map, nat_lt, string_bytes, fields_text, waiting_fields, waiting_value}
 use Rattle.ct_json.proofs.Left.{IsLeft}
 use Rattle.ct_json.proofs.json_state.push_waiting.Given as goal
 

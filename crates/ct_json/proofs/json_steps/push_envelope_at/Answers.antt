@@ -1,8 +1,5 @@
-use Rattle.std.specs.Prelude.{[], ◌∷◌, codes, string_bytes}
+use Rattle.ct_json.proofs.Common.{[], ◌∷◌, codes, string_bytes, compact_text, pushed_last, envelope_value}
 use Rattle.json.proofs.OnLiterals.{json_on_literals}
-use Rattle.serde_json.specs.Written.{compact_text}
-use Rattle.ct_text.proofs.Pushed.{pushed_last}
-use Rattle.ct_json.specs.JsonEnvelopes.{envelope_value}
 use Rattle.ct_json.proofs.json_steps.push_envelope_at.Goals as goal
 
 pub returns : goal.returns

@@ -1,8 +1,6 @@
-use Rattle.std.proofs.Common.{ap}
-use Rattle.std.specs.Prelude.{◌++◌, codes, decimal, string_bytes}
+use Rattle.ct_json.proofs.Common.{ap, ◌++◌, codes, decimal, string_bytes, step_entry}
 use Rattle.json.proofs.OnLiterals.{json_on_literals}
 use Rattle.ct_model.specs.Actor.{actor}
-use Rattle.ct_model.specs.StepText.{step_entry}
 use Rattle.ct_json.specs.JsonSteps.{head_fields}
 use Rattle.ct_json.proofs.Fields.{quoted_is, then_same}
 use Rattle.ct_json.proofs.Texts.{name_plain}

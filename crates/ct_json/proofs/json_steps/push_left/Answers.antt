@@ -1,9 +1,6 @@
-use Rattle.std.proofs.Common.{ap, append-nil, sym, ◌∙◌}
-use Rattle.std.specs.Prelude.{[], ◌∷◌, ◌++◌, codes, decimal, string_bytes}
+use Rattle.ct_json.proofs.Common.{ap, append-nil, sym, ◌∙◌, [], ◌∷◌, ◌++◌, codes, decimal, string_bytes, compact_text, num, step_data}
+use Rattle.ct_json.proofs.Common.{object_of}
 use Rattle.json.proofs.OnLiterals.{json_on_literals}
-use Rattle.serde_json.specs.Written.{compact_text}
-use Rattle.ct_records.specs.Values.{num, step_data}
-use Rattle.ct_json.specs.Fields.{object_of}
 use Rattle.ct_json.proofs.Fields.{then_same}
 use Rattle.ct_json.proofs.Texts.{step_same}
 use Rattle.ct_json.proofs.json_steps.push_left.Goals as goal

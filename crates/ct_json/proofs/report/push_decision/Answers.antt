@@ -1,8 +1,6 @@
-use Rattle.std.specs.Prelude.{[], ◌∷◌, codes, decimal, string_bytes}
+use Rattle.ct_json.proofs.Common.{[], ◌∷◌, codes, decimal, string_bytes, compact_text, messages_value, pushed_more, pushed_str}
 use Rattle.json.proofs.OnLiterals.{json_on_literals}
-use Rattle.serde_json.specs.Written.{compact_text}
-use Rattle.ct_json.specs.Json.{decision_value, messages_value}
-use Rattle.ct_text.proofs.Pushed.{pushed_more, pushed_str}
+use Rattle.ct_json.specs.Json.{decision_value}
 use Rattle.ct_json.proofs.report.push_decision.Goals as goal
 
 pub returns : goal.returns

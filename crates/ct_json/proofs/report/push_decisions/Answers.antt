@@ -1,15 +1,13 @@
-use Rattle.std.proofs.Common.{◌≡◌, ℕ, ◌+◌, Option, ap, refl, ◌∙◌}
-use Rattle.std.specs.Prelude.{codes, flat_map, string_bytes, unwrap_or}
+use Rattle.ct_json.proofs.Common.{◌≡◌, ℕ, ◌+◌, Option, ap, refl, ◌∙◌, codes, flat_map, string_bytes, unwrap_or, counting, decision_values}
 use Rattle.json.proofs.OnLiterals.{json_on_literals}
 use Rattle.ct_model.specs.Received.{decided}
-use Rattle.ct_names.specs.Group.{counting}
 use Rattle.ct_world.specs.Decided.{last_decided}
 use Rattle.ct_world.specs.World.{member_of}
 use Rattle.ct_text.proofs.Found.{told_of}
-use Rattle.ct_json.specs.Json.{decision_values, decisions_fields}
-use Rattle.ct_json.proofs.Left.{counting_all, counting_next, counting_none, field_left, flat_none, flat_one, flat_end}
-use Rattle.ct_json.proofs.report.push_decisions.Goals as goal
+use Rattle.ct_json.specs.Json.{decisions_fields}
+use Rattle.ct_json.proofs.Left.{counting_all, counting_next, counting_none, field_left, flat_end, flat_none, flat_one}
 use Rattle.ct_json.proofs.report.push_decisions.Goals.{in-Some+in_ok-push_separator+in_ok-push_decision, in_default}
+use Rattle.ct_json.proofs.report.push_decisions.Goals as goal
 
 pub loop-i-init : goal.loop-i-init
 unfolding decisions_fields json_on_literals

@@ -1,9 +1,5 @@
-use Rattle.std.proofs.Common.{◌+◌, ◌-◌, ◌++◌}
-use Rattle.std.specs.Prelude.{flat_map, string_bytes}
-use Rattle.ct_names.specs.Group.{counting}
+use Rattle.ct_json.proofs.Common.{◌+◌, ◌-◌, ◌++◌, flat_map, string_bytes, counting, fields_text, decision_values, decisions_fields}
 use Rattle.ct_world.specs.World.{member_of}
-use Rattle.ct_json.specs.Fields.{fields_text}
-use Rattle.ct_json.specs.Json.{decision_values, decisions_fields}
 use Rattle.ct_json.proofs.Left.{IsLeft}
 use Rattle.ct_json.proofs.report.push_decisions.Given as goal
 

@@ -1,9 +1,8 @@
-use Rattle.std.proofs.Common.{◌+◌, ◌<◌, ap, arith, map, refl}
-use Rattle.std.specs.Prelude.{codes, string_bytes}
+use Rattle.ct_json.proofs.Common.{◌+◌, ◌<◌, ap, arith, map, refl, codes, string_bytes, counting, member_value}
 use Rattle.json.proofs.OnLiterals.{json_on_literals}
-use Rattle.ct_names.specs.Group.{counting, members}
-use Rattle.ct_json.specs.Json.{member_value, members_fields}
-use Rattle.ct_json.proofs.Left.{counting_all, counting_next, counting_none, field_left, map_one, map_end}
+use Rattle.ct_names.specs.Group.{members}
+use Rattle.ct_json.specs.Json.{members_fields}
+use Rattle.ct_json.proofs.Left.{counting_all, counting_next, counting_none, field_left, map_end, map_one}
 use Rattle.ct_json.proofs.report.push_members.Goals as goal
 
 pub loop-i-init : goal.loop-i-init

@@ -1,8 +1,4 @@
-use Rattle.std.proofs.Common.{◌+◌, ◌-◌, ◌++◌, map}
-use Rattle.std.specs.Prelude.{string_bytes}
-use Rattle.ct_names.specs.Group.{counting}
-use Rattle.ct_json.specs.Fields.{fields_text}
-use Rattle.ct_json.specs.Json.{member_value, members_fields}
+use Rattle.ct_json.proofs.Common.{◌+◌, ◌-◌, ◌++◌, map, string_bytes, counting, fields_text, member_value, members_fields}
 use Rattle.ct_json.proofs.Left.{IsLeft}
 use Rattle.ct_json.proofs.report.push_members.Given as goal
 

@@ -1,7 +1,5 @@
-use Rattle.std.proofs.Common.{ap}
-use Rattle.std.specs.Prelude.{◌++◌, codes, string_bytes}
+use Rattle.ct_json.proofs.Common.{ap, ◌++◌, codes, string_bytes, message_text}
 use Rattle.json.proofs.OnLiterals.{json_on_literals}
-use Rattle.ct_names.specs.MessageText.{message_text}
 use Rattle.ct_json.proofs.Fields.{quoted_is, then_same}
 use Rattle.ct_json.proofs.Texts.{message_plain}
 use Rattle.ct_json.proofs.report.push_message.Goals as goal

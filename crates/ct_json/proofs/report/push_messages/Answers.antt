@@ -1,10 +1,8 @@
-use Rattle.std.proofs.Common.{◌+◌, ◌++◌, ap, arith, lt-ltb, map, refl, sym, ◌∙◌}
-use Rattle.std.specs.Prelude.{string_bytes}
-use Rattle.ct_json.specs.Json.{message_value, messages_value}
-use Rattle.ct_json.proofs.Left.{array_left, drop_next, map_one, map_end}
+use Rattle.ct_json.proofs.Common.{◌+◌, ◌++◌, ap, arith, lt-ltb, map, refl, sym, ◌∙◌, string_bytes, drop_all, message_value}
+use Rattle.ct_json.specs.Json.{messages_value}
+use Rattle.ct_json.proofs.Left.{array_left, drop_next, map_end, map_one}
 use Rattle.ct_json.proofs.Texts.{message_plain}
 use Rattle.ct_json.proofs.report.push_messages.Goals as goal
-use Rattle.std.proofs.lemmas.List.{drop_all}
 
 pub loop-i-init : goal.loop-i-init
 unfolding messages_value

@@ -1,7 +1,4 @@
-use Rattle.std.proofs.Common.{◌++◌, drop, map}
-use Rattle.std.specs.Prelude.{nat_lt, string_bytes}
-use Rattle.serde_json.specs.Written.{compact_text}
-use Rattle.ct_json.specs.Json.{message_value, messages_value}
+use Rattle.ct_json.proofs.Common.{◌++◌, drop, map, nat_lt, string_bytes, compact_text, message_value, messages_value}
 use Rattle.ct_json.proofs.Left.{IsLeft}
 use Rattle.ct_json.proofs.report.push_messages.Given as goal
 

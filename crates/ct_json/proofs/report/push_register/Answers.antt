@@ -1,5 +1,4 @@
-use Rattle.std.proofs.Common.{◌≡◌, ℕ, Option, ap, ◌∙◌}
-use Rattle.std.specs.Prelude.{slice_index, unwrap_or}
+use Rattle.ct_json.proofs.Common.{◌≡◌, ℕ, Option, ap, ◌∙◌, slice_index, unwrap_or}
 use Rattle.std.proofs.lemmas.Option.{unwrap_or-slice_get}
 use Rattle.ct_json.proofs.report.push_register.Goals as goal
 

@@ -1,9 +1,7 @@
-use Rattle.std.proofs.Common.{arith, map, refl}
-use Rattle.std.specs.Prelude.{codes, string_bytes}
+use Rattle.ct_json.proofs.Common.{arith, map, refl, codes, string_bytes, counting, register_value}
 use Rattle.json.proofs.OnLiterals.{json_on_literals}
-use Rattle.ct_names.specs.Group.{counting}
-use Rattle.ct_json.specs.Json.{register_value, table_fields}
-use Rattle.ct_json.proofs.Left.{counting_next, counting_none, field_left, map_one, map_end}
+use Rattle.ct_json.specs.Json.{table_fields}
+use Rattle.ct_json.proofs.Left.{counting_next, counting_none, field_left, map_end, map_one}
 use Rattle.ct_json.proofs.report.push_table.Goals as goal
 
 pub loop-register-init : goal.loop-register-init

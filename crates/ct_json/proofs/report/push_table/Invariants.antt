@@ -1,8 +1,4 @@
-use Rattle.std.proofs.Common.{◌-◌, ◌++◌, map}
-use Rattle.std.specs.Prelude.{string_bytes}
-use Rattle.ct_names.specs.Group.{counting}
-use Rattle.ct_json.specs.Fields.{fields_text}
-use Rattle.ct_json.specs.Json.{register_value, table_fields}
+use Rattle.ct_json.proofs.Common.{◌-◌, ◌++◌, map, string_bytes, counting, fields_text, register_value, table_fields}
 use Rattle.ct_json.proofs.Left.{IsLeft}
 use Rattle.ct_json.proofs.report.push_table.Given as goal
 
