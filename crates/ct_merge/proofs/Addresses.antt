@@ -1,56 +1,34 @@
 -- Envelopes by their addresses.
-use Rattle.std.proofs.Common.{◌≡◌, ℕ, zero, suc, ◌+◌, ◌≤◌, Bool, true, false, cond, List, [], Option, Some, None}
-use Rattle.std.proofs.Common.{length, length-append, inl, inr, refl, sym, ap, ◌∙◌, subst, arith}
-use Rattle.std.specs.Prelude.{is_some, option_and_then, option_map}
+use Rattle.ct_merge.proofs.Common.{◌≡◌, ℕ, zero, suc, ◌+◌, ◌≤◌, Bool, true, false, List, [], Option, Some, None, length, length-append, inl}
+use Rattle.ct_merge.proofs.Common.{inr, refl, sym, ap, ◌∙◌, subst, arith, is_some, option_and_then, option_map, cases_eq, nat_tests}
+use Rattle.ct_merge.proofs.Common.{length-map, counting, Envelope, Mail, cause, IsLawful, without_value, addressed, Rehearsal, extended}
+use Rattle.ct_merge.proofs.Common.{state_of, senders, is_sent, State, at_serial, envelopes, All, Step, some-none, some-same, number_same}
+use Rattle.ct_merge.proofs.Common.{cause-allowed, sent-first, state-first, history-run, whole, Played, letter, IsFrom, IsSentAs, named}
+use Rattle.ct_merge.proofs.Common.{IsNamed, IsUnsent, FullName, Carried}
+use Rattle.std.proofs.Common.{cond}
 use Rattle.std.specs.HashMap.{HashMap, IsEmpty, Updates, get}
 use Rattle.std.specs.Map.{lookup}
-use Rattle.std.proofs.lemmas.Bool.{cases_eq}
-use Rattle.std.proofs.lemmas.Bool.Decides.{nat_tests}
-use Rattle.std.proofs.lemmas.List.{length-map}
-use Rattle.ct_names.specs.Group.{counting, members}
+use Rattle.ct_names.specs.Group.{members}
 use Rattle.ct_names.proofs.Groups.{length-counting}
-use Rattle.ct_model.specs.AtValue.{Envelope, Mail}
-use Rattle.ct_model.specs.Cause.{cause}
-use Rattle.ct_model.specs.Lawful.{IsLawful}
-use Rattle.ct_model.specs.Mapped.{without_value}
-use Rattle.ct_model.specs.Next.{addressed, wire_to}
-use Rattle.ct_model.specs.Rehearsal.{Rehearsal, extended, state_of}
-use Rattle.ct_model.specs.Senders.{senders}
-use Rattle.ct_model.specs.Stamps.{is_sent}
-use Rattle.ct_model.specs.State.{State, at_serial}
+use Rattle.ct_model.specs.Next.{wire_to}
 use Rattle.ct_model.specs.When.{when}
-use Rattle.ct_model.specs.Wire.{envelopes}
 use Rattle.ct_model.specs.declared.envelope.Envelope.{Envelope as AnyEnvelope}
-use Rattle.ct_model.specs.declared.mail.Mail.TheVariants.{All}
-use Rattle.ct_model.specs.declared.step.Step.{Step}
-use Rattle.ct_model.proofs.Basics.Options.{some-none, some-same}
-use Rattle.ct_model.proofs.Basics.Tests.{number_same}
-use Rattle.ct_model.proofs.Record.Allowed.{cause-allowed}
-use Rattle.ct_model.proofs.Record.Start.{sent-first, state-first}
-use Rattle.ct_model.proofs.Relay.Relaying.{history-run}
 use Rattle.ct_world.specs.Setup.{record_of, setting_of}
 use Rattle.ct_world.specs.declared.setup.Setup.{Setup}
-use Rattle.ct_grammar.specs.Sides.{whole}
 use Rattle.ct_play.specs.Picking.{sender_of}
-use Rattle.ct_play.specs.Played.{Played}
 use Rattle.ct_merge.specs.Addresses.{IsAt, IsIndex, IsIndexTo, name_at, thing}
-use Rattle.ct_merge.specs.Deeds.{letter, IsFrom}
-use Rattle.ct_merge.specs.Names.{IsSentAs, full_name, named}
-use Rattle.ct_merge.specs.Runs.{IsNamed}
-use Rattle.ct_merge.specs.Waits.{IsUnsent}
+use Rattle.ct_merge.specs.Names.{full_name}
 use Rattle.ct_merge.specs.contracts.address.AddressPartialEq.TheImpl.{ghosts as equal}
 use Rattle.ct_merge.specs.declared.address.Address.{Address}
 use Rattle.ct_merge.specs.declared.address.Kind.{Kind}
-use Rattle.ct_merge.specs.declared.address.Kind.TheVariants as kind
-use Rattle.ct_merge.specs.declared.full_name.FullName.{FullName}
-use Rattle.ct_grammar.specs.declared.carried.Carried.{Carried}
-use Rattle.ct_grammar.specs.declared.carried.Carried.TheVariants as carried
 use Rattle.ct_merge.proofs.Beyond.{there_named, there_wire}
 use Rattle.ct_merge.proofs.Begun.{receipt_of}
 use Rattle.ct_merge.proofs.Moments.{get_below, get_there}
 use Rattle.ct_merge.proofs.Posting.{from_kept}
 use Rattle.ct_merge.proofs.SentOnce.{named_cases, sent_more, stepping}
 use Rattle.ct_merge.proofs.Telling.{receipt_named}
+use Rattle.ct_merge.specs.declared.address.Kind.TheVariants as kind
+use Rattle.ct_grammar.specs.declared.carried.Carried.TheVariants as carried
 
 -- ---- addresses
 

@@ -1,21 +1,12 @@
 -- Lines of several logs, which may grow.
-use Rattle.std.proofs.Common.{◌≡◌, ◌≢◌, ℕ, ◌≤◌, true, List, [], inl, inr, ap, sym, subst, ◌∙◌, arith}
-use Rattle.std.proofs.Common.{◌-◌, take, ◌++◌, ◌∷◌, append-nil, length-append}
-use Rattle.std.specs.Prelude.{filter, slice_index, All, OnErr, OnOk, Result, Ok, Err}
-use Rattle.std.specs.Global.{Vec}
-use Rattle.std.specs.List.{AllZip}
-use Rattle.std.proofs.lemmas.Bool.{cases_eq}
-use Rattle.std.proofs.lemmas.Bool.Decides.{eqb_tells}
-use Rattle.std.proofs.lemmas.List.{take_all, take-append-le}
-use Rattle.ct_names.specs.Group.{is_member}
-use Rattle.ct_model.specs.Rehearsal.{Rehearsal, empty}
-use Rattle.ct_merge.specs.Logs.{IsLog, IsMerge, IsTold, is_own, log_of, moments, own}
-use Rattle.ct_merge.specs.Merging.{IsLater, IsTakenFrom, IsTakenTo, IsWholeTo, LeavesOthers, Taken, count_of, Growing, IsBare}
-use Rattle.ct_merge.specs.declared.log_line.LogLine.{LogLine}
-use Rattle.std.specs.Option.{option_map_or}
-use Rattle.std.proofs.lemmas.List.Elements.{All-get_or}
-use Rattle.std.proofs.lemmas.Option.{slice_get_cases}
+use Rattle.ct_merge.proofs.Common.{◌≡◌, ◌≢◌, ℕ, ◌≤◌, true, List, [], inl, inr, ap, sym, subst, ◌∙◌, arith, ◌-◌, take}
+use Rattle.ct_merge.proofs.Common.{◌++◌, ◌∷◌, append-nil, length-append, filter, Result, Ok, Err, Vec, AllZip, cases_eq}
+use Rattle.ct_merge.proofs.Common.{eqb_tells, take_all, take-append-le, is_member, Rehearsal, empty, IsLog, IsMerge, IsTold, is_own, log_of}
+use Rattle.ct_merge.proofs.Common.{IsLater, IsTakenFrom, IsTakenTo, IsWholeTo, LeavesOthers, Taken, count_of, Growing, IsBare, LogLine}
+use Rattle.ct_merge.proofs.Common.{option_map_or, All-get_or, slice_get_cases}
+use Rattle.std.specs.Prelude.{slice_index, All, OnErr, OnOk}
 use Rattle.ct_names.proofs.Groups.{member_from_one}
+use Rattle.ct_merge.specs.Logs.{moments, own}
 
 taken_as : (old new : Rehearsal) (p : ℕ) (log : List LogLine) (a b : ℕ) → own new p ≡ own old p → b ≡ a → IsTakenTo old p log a →
     IsTakenTo new p log b

@@ -1,26 +1,8 @@
 -- Runs of first lines of logs.
-use Rattle.std.proofs.Common.{◌≡◌, ℕ, zero, suc, true, List, [], ◌∷◌, Option, Some, None, length, take, refl, sym, ap, ◌∙◌, subst}
-use Rattle.std.proofs.Common.{arith}
-use Rattle.std.specs.Prelude.{slice_get, option_map}
-use Rattle.std.specs.Global.{Vec}
-use Rattle.std.specs.List.{AllZip}
-use Rattle.std.proofs.lemmas.Bool.Decides.{nat_tests}
-use Rattle.std.proofs.lemmas.List.{take_all}
-use Rattle.ct_names.specs.Group.{IsMember, is_member}
-use Rattle.ct_model.specs.AtValue.{Wire}
-use Rattle.ct_model.specs.Next.{wire_to}
-use Rattle.ct_model.specs.Rehearsal.{Rehearsal, state_of}
-use Rattle.ct_model.specs.Setting.{Setting}
-use Rattle.ct_model.specs.Stamps.{is_sent}
-use Rattle.ct_model.proofs.Basics.Options.{some-none, some-same}
-use Rattle.ct_merge.specs.Deeds.{IsSame}
-use Rattle.ct_merge.specs.Local.{IsLike}
-use Rattle.ct_merge.specs.Logs.{IsLog, IsMerge, IsTold, Moment, log_of, own}
-use Rattle.ct_merge.specs.Names.{full_name}
-use Rattle.ct_merge.specs.Runs.{IsBegun, IsRun}
-use Rattle.ct_merge.specs.declared.full_name.FullName.{FullName}
-use Rattle.ct_merge.specs.declared.log_act.LogAct.{LogAct}
-use Rattle.ct_merge.specs.declared.log_line.LogLine.{LogLine}
+use Rattle.ct_merge.proofs.Common.{◌≡◌, ℕ, zero, suc, true, List, [], ◌∷◌, Option, Some, None, length, take, refl, sym, ap, ◌∙◌, subst}
+use Rattle.ct_merge.proofs.Common.{arith, slice_get, option_map, Vec, AllZip, nat_tests, take_all, IsMember, is_member, Wire, wire_to}
+use Rattle.ct_merge.proofs.Common.{Rehearsal, state_of, Setting, is_sent, some-none, some-same, IsSame, IsLike, IsLog, IsMerge, IsTold}
+use Rattle.ct_merge.proofs.Common.{Moment, log_of, own, full_name, IsBegun, IsRun, FullName, LogAct, LogLine}
 use Rattle.ct_merge.proofs.SentOnce.{one_receipt}
 use Rattle.ct_merge.proofs.Sameness.{Acts, AreSame, like_there, same_deeds}
 use Rattle.ct_merge.proofs.Telling.{IsReceipt, wire_named}

@@ -1,33 +1,15 @@
 -- Lines that are never taken: no run of the lines of logs goes beyond one.
-use Rattle.std.proofs.Common.{◌≡◌, ℕ, ◌<◌, ◌≤◌, true, false, ◌++◌, Option, Some, length, inl, inr, refl, sym, ap, ap₂, ◌∙◌, subst}
-use Rattle.std.proofs.Common.{arith, ◌+◌, Bool, List, IfSome}
-use Rattle.std.specs.Prelude.{slice_get, option_map}
-use Rattle.ct_names.specs.Group.{IsMember}
-use Rattle.ct_model.specs.Actor.{actor}
-use Rattle.ct_model.specs.AtValue.{Wire}
-use Rattle.ct_model.specs.Mapped.{without_value}
-use Rattle.ct_model.specs.Next.{Outcome, after, next, wire_to}
-use Rattle.ct_model.specs.Rehearsal.{Rehearsal, state_of, extended, empty}
-use Rattle.ct_model.specs.Senders.{senders}
-use Rattle.ct_model.specs.Setting.{Setting}
-use Rattle.ct_model.specs.State.{State, Member, member, is_crashed, submissions, at_serial}
-use Rattle.ct_model.specs.declared.step.Step.{Step}
-use Rattle.ct_model.proofs.Basics.Tests.{number_same}
-use Rattle.ct_model.proofs.Relay.Messages.{next-is}
-use Rattle.ct_merge.specs.Barred.{IsDone, IsThere, AreBarred, IsBarred}
-use Rattle.ct_merge.specs.Barred.IsDone.{nobody, stopped, unable, unknown}
-use Rattle.ct_merge.specs.Deeds.{letter, Sends, IsFrom, IsPosted, IsSame}
-use Rattle.ct_merge.specs.Local.{outcome_of, IsLike, gets}
-use Rattle.ct_merge.specs.Logs.{Moment, act_of, is_own, own, IsMerge, IsTold, log_of}
-use Rattle.ct_merge.specs.Merging.{step_of}
-use Rattle.ct_play.specs.Picking.{carried_of, sender_of}
-use Rattle.ct_merge.specs.Names.{full_name, named}
-use Rattle.ct_merge.specs.Runs.{IsRun, IsBegun}
-use Rattle.ct_merge.specs.Unable.{IsOfGroup, SendsNoMore}
-use Rattle.ct_grammar.specs.declared.carried.Carried.{Carried}
-use Rattle.ct_merge.specs.declared.full_name.FullName.{FullName}
-use Rattle.ct_merge.specs.declared.log_act.LogAct.{LogAct}
-use Rattle.ct_merge.specs.declared.log_act.LogAct.TheVariants.{Receive}
+use Rattle.ct_merge.proofs.Common.{◌≡◌, ℕ, ◌<◌, ◌≤◌, true, false, ◌++◌, Option, Some, length, inl, inr, refl, sym, ap, ap₂, ◌∙◌, subst}
+use Rattle.ct_merge.proofs.Common.{arith, ◌+◌, Bool, List, IfSome, slice_get, option_map, IsMember, actor, Wire, without_value, Outcome}
+use Rattle.ct_merge.proofs.Common.{after, next, Rehearsal, state_of, extended, empty, senders, Setting, State, Member, member, is_crashed}
+use Rattle.ct_merge.proofs.Common.{submissions, at_serial, Step, number_same, next-is, IsDone, IsThere, IsBarred, nobody, stopped, unable}
+use Rattle.ct_merge.proofs.Common.{unknown, letter, Sends, IsFrom, IsPosted, IsSame, outcome_of, IsLike, gets, Moment, act_of, is_own, own}
+use Rattle.ct_merge.proofs.Common.{IsMerge, IsTold, log_of, step_of, carried_of, named, IsRun, IsBegun, IsOfGroup, SendsNoMore, Carried}
+use Rattle.ct_merge.proofs.Common.{FullName, LogAct, Receive, Vec, is_stated, stated_text, down, never, refused, waits, LogLine}
+use Rattle.ct_model.specs.Next.{wire_to}
+use Rattle.ct_merge.specs.Barred.{AreBarred}
+use Rattle.ct_play.specs.Picking.{sender_of}
+use Rattle.ct_merge.specs.Names.{full_name}
 use Rattle.ct_merge.proofs.Local.{next_outcome, outcome_local, outcome_is}
 use Rattle.ct_merge.proofs.Moments.{get_below, get_last, get_there, placed, no_own, own_actor, own_front}
 use Rattle.ct_merge.proofs.Unable.{NoMoreIn, no_more_sends}
@@ -37,10 +19,6 @@ use Rattle.ct_merge.proofs.Owning.{at, only, own_more, own_grown}
 use Rattle.ct_merge.proofs.Posting.{is_named, posted, sent_serial}
 use Rattle.ct_merge.proofs.Sameness.{Acts, AreSame, below_or_not, both_get, like_there, same_deeds, same_wire, sends_same}
 use Rattle.ct_merge.proofs.Telling.{IsReceipt, IsToldStep, carried_same, receipt_by, wire_named, told_step}
-use Rattle.std.specs.Global.{Vec}
-use Rattle.ct_play.specs.Stating.{is_stated, stated_text}
-use Rattle.ct_merge.specs.Barred.IsBarred.{down, never, refused, waits}
-use Rattle.ct_merge.specs.declared.log_line.LogLine.{LogLine}
 use Rattle.ct_merge.proofs.Begun.{IsByLines, acts_by, acts_in, by_lines, is_member_of, merge_begun, zip_length}
 use Rattle.ct_merge.proofs.Outcomes.{text_same}
 use Rattle.ct_merge.proofs.Running.{by_steps, run_next}

@@ -1,42 +1,24 @@
 -- Envelopes that the network brings once more.
-use Rattle.std.proofs.Common.{◌≡◌, ◌≢◌, ℕ, Bool, true, false, not, ◌==◌, List, [], ◌∷◌, ◌++◌, Option, Some, None, Ok, Err}
-use Rattle.std.proofs.Common.{arith, inr, ap, sym, ◌∙◌, refl, subst, length}
-use Rattle.std.specs.Prelude.{IfSome}
-use Rattle.ct_names.specs.Group.{is_member}
-use Rattle.ct_names.specs.declared.refusal.Refusal.{Refusal}
-use Rattle.ct_names.specs.declared.refusal.Refusal.TheVariants.{Crashed, NoSuchMember, NotWaiting}
-use Rattle.ct_model.specs.Cause.{at, cause, first_fault, limit, presence}
-use Rattle.ct_model.specs.Lawful.{IsLawful, IsPresent, is_waiting}
-use Rattle.ct_model.specs.Rehearsal.{Rehearsal, extended, line_of, state_of}
-use Rattle.ct_model.specs.State.{is_crashed}
+use Rattle.ct_merge.proofs.Common.{◌≡◌, ◌≢◌, ℕ, Bool, true, false, not, ◌==◌, List, [], ◌∷◌, ◌++◌, Option, Some, None, Ok, Err, arith, inr}
+use Rattle.ct_merge.proofs.Common.{ap, sym, ◌∙◌, refl, subst, length, IfSome, is_member, Refusal, Crashed, NoSuchMember, NotWaiting, at}
+use Rattle.ct_merge.proofs.Common.{cause, first_fault, limit, presence, IsLawful, IsPresent, is_waiting, Rehearsal, extended, line_of}
+use Rattle.ct_merge.proofs.Common.{state_of, is_crashed, envelopes, Repeat, some-none, some-same, or_left, or_right, self_number}
+use Rattle.ct_merge.proofs.Common.{cause-passed, UnlessShort, is_short, LineFault, IsSerialOf, IsThereFor, received, IsSentAs, IsAsked}
+use Rattle.ct_merge.proofs.Common.{IsFaultAt, IsRefusedBy, is_full, FullName, LogAct, LogLine, Line}
 use Rattle.ct_model.specs.Waiting.{changed, has_serial, serials_to}
 use Rattle.ct_model.specs.Waiting.LineChange.{Restores}
-use Rattle.ct_model.specs.Wire.{envelopes}
-use Rattle.ct_model.specs.declared.step.Step.TheVariants.{Receive, Repeat}
-use Rattle.ct_model.proofs.Basics.Options.{some-none, some-same}
+use Rattle.ct_model.specs.declared.step.Step.TheVariants.{Receive}
 use Rattle.ct_model.proofs.Basics.Serials.{has_serial-append}
-use Rattle.ct_model.proofs.Basics.Tests.{or_left, or_right, self_number}
 use Rattle.ct_model.proofs.Record.Causes.{cause-absent, none-present}
-use Rattle.ct_model.proofs.Record.Limits.{cause-passed}
 use Rattle.ct_model.proofs.Record.Taken.{line-step}
 use Rattle.ct_model.proofs.Steps.LineSteps.{line_outcome, repeat_taken}
 use Rattle.ct_model.proofs.Steps.Receive.{cause-receive-away, receive_waits}
-use Rattle.ct_play.specs.Faults.{UnlessShort, is_short}
-use Rattle.ct_play.specs.declared.line_fault.LineFault.{LineFault}
 use Rattle.ct_world.specs.World.{verdict}
-use Rattle.ct_merge.specs.Merging.{IsSerialOf, IsThereFor, received}
-use Rattle.ct_merge.specs.Names.{IsSentAs}
-use Rattle.ct_merge.specs.Stops.{IsAsked, IsFaultAt, IsRefusedBy}
-use Rattle.ct_merge.specs.Waits.{is_full}
-use Rattle.ct_merge.specs.declared.full_name.FullName.{FullName}
-use Rattle.ct_merge.specs.declared.log_act.LogAct.{LogAct}
-use Rattle.ct_merge.specs.declared.log_act.LogAct.TheVariants as told
-use Rattle.ct_merge.specs.declared.log_line.LogLine.{LogLine}
-use Rattle.ct_merge.specs.declared.own_fault.OwnFault.TheVariants.{Line}
 use Rattle.ct_merge.proofs.Addresses.{sent_kept}
 use Rattle.ct_merge.proofs.Failing.{limit_full}
 use Rattle.ct_merge.proofs.Standing.{refused_so}
 use Rattle.ct_merge.proofs.Stopping.{refused, unless_more}
+use Rattle.ct_merge.specs.declared.log_act.LogAct.TheVariants as told
 
 -- ---- whether it waits
 

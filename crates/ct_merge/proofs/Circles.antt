@@ -1,25 +1,11 @@
 -- Logs that wait for what never comes, or in a circle, have no merge, whatever lines they go on with.
-use Rattle.std.proofs.Common.{◌≡◌, ℕ, zero, suc, ◌+◌, ◌≤◌, ◌⊎◌, ◌==◌, Bool, true, false, List, [], ◌∷◌, length}
-use Rattle.std.proofs.Common.{inl, inr, refl, sym, ap, ◌∙◌, subst, arith}
-use Rattle.std.specs.Prelude.{if◌then◌else◌}
-use Rattle.std.specs.List.{list_any}
-use Rattle.std.specs.Global.{Vec}
-use Rattle.ct_names.specs.Group.{counting, is_member}
-use Rattle.ct_names.specs.Membership.{IsIn, IsWithoutRepeats}
+use Rattle.ct_merge.proofs.Common.{◌≡◌, ℕ, zero, suc, ◌+◌, ◌≤◌, ◌⊎◌, ◌==◌, Bool, true, false, List, [], ◌∷◌, length, inl, inr, refl, sym}
+use Rattle.ct_merge.proofs.Common.{ap, ◌∙◌, subst, arith, if◌then◌else◌, list_any, Vec, counting, is_member, IsIn, Setting, member_is}
+use Rattle.ct_merge.proofs.Common.{number_same, same_number, never, waits, IsTakenFrom, Taken, IsRun, IsCulprit, IsLed, IsStand, IsWait}
+use Rattle.ct_merge.proofs.Common.{Receives, NeverMerges, is_ended, is_limit, is_wait, LogLine, Culprit, Why, Circle, Ended, Fault, Never}
+use Rattle.ct_names.specs.Membership.{IsWithoutRepeats}
 use Rattle.ct_names.proofs.Groups.{in-counting, in_or_out, length-counting, no_longer}
 use Rattle.ct_names.proofs.Lists.{found-list_any, list_any-found}
-use Rattle.ct_model.specs.Setting.{Setting}
-use Rattle.ct_model.proofs.Basics.Groups.{member_is}
-use Rattle.ct_model.proofs.Basics.Tests.{number_same, same_number}
-use Rattle.ct_merge.specs.Barred.IsBarred.{never, waits}
-use Rattle.ct_merge.specs.Merging.{IsTakenFrom, Taken}
-use Rattle.ct_merge.specs.Runs.{IsRun}
-use Rattle.ct_merge.specs.Stops.{IsCulprit, IsLed, IsStand, IsWait, Receives}
-use Rattle.ct_merge.specs.Waits.{NeverMerges, is_ended, is_limit, is_wait}
-use Rattle.ct_merge.specs.declared.log_line.LogLine.{LogLine}
-use Rattle.ct_merge.specs.declared.verdict.Culprit.{Culprit}
-use Rattle.ct_merge.specs.declared.verdict.Why.{Why}
-use Rattle.ct_merge.specs.declared.verdict.Why.TheVariants.{Circle, Ended, Fault, Never}
 use Rattle.ct_merge.proofs.Coming.{never_comes}
 use Rattle.ct_merge.proofs.Failing.{fault_none}
 use Rattle.ct_merge.proofs.Held.{AreHeld, held_none, not_there, one_held}

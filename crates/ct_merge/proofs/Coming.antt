@@ -1,54 +1,31 @@
 -- What may come no more its sender never sends.
-use Rattle.std.proofs.Common.{◌≡◌, ◌≢◌, ℕ, ◌+◌, ◌*◌, ◌≤◌, ◌⊎◌, ◌&&◌, ◌||◌, ◌==◌, Bool, true, false, not, [], ◌∷◌, ◌++◌, Option, Some}
-use Rattle.std.proofs.Common.{None, length, inl, inr, refl, sym, ap, ap₂, ◌∙◌, subst, arith, is_some, nat_le, nat_lt, option_map}
-use Rattle.std.proofs.Common.{length-append}
-use Rattle.std.specs.Prelude.{filter, if◌then◌else◌}
-use Rattle.std.proofs.lemmas.Bool.{and_cases, and_parts, leb-true, ltb-false, not-false}
-use Rattle.std.proofs.lemmas.Bool.Decides.{nat_tests}
-use Rattle.std.proofs.lemmas.List.Elements.{filter-append}
+use Rattle.ct_merge.proofs.Common.{◌≡◌, ◌≢◌, ℕ, ◌+◌, ◌*◌, ◌≤◌, ◌⊎◌, ◌&&◌, ◌||◌, ◌==◌, Bool, true, false, not, [], ◌∷◌, ◌++◌, Option, Some}
+use Rattle.ct_merge.proofs.Common.{None, length, inl, inr, refl, sym, ap, ap₂, ◌∙◌, subst, arith, is_some, nat_le, nat_lt, option_map}
+use Rattle.ct_merge.proofs.Common.{length-append, filter, if◌then◌else◌, and_parts, nat_tests, filter-append, coordinator, is_member}
+use Rattle.ct_merge.proofs.Common.{IsMember, IsIn, actor, Standing, Wire, without_value, Outcome, next, plain, receive, row, turn_at}
+use Rattle.ct_merge.proofs.Common.{wire_to, decided, Rehearsal, extended, state_of, Setting, Member, State, at_serial, is_crashed, member}
+use Rattle.ct_merge.proofs.Common.{submissions, Nobody, Phase, Step, member_is, made-map, some-none, some-same, when-is, number_same}
+use Rattle.ct_merge.proofs.Common.{same_number, state-first, submissions-first, history-run, deliver_row-is, follow_row-is, Carried, Data}
+use Rattle.ct_merge.proofs.Common.{Est, Prop, Ack, Nack, Dec, IsDone, nobody, stopped, unable, unknown, HasDecision, HasMessage, HasPassed}
+use Rattle.ct_merge.proofs.Common.{rank, stage, IsRun, IsOfGroup, SendsNoMore, SkipsRound, elsewhere, past, proposed, skipped, FullName}
+use Rattle.std.proofs.lemmas.Bool.{and_cases, leb-true, ltb-false, not-false}
 use Rattle.std.proofs.lemmas.List.Sums.{length-filter}
-use Rattle.ct_names.specs.Group.{coordinator, is_member, IsMember}
-use Rattle.ct_names.specs.Membership.{IsIn}
-use Rattle.ct_names.proofs.Lists
-use Rattle.ct_model.specs.Actor.{actor}
-use Rattle.ct_model.specs.AtValue.{Standing, Wire}
-use Rattle.ct_model.specs.Mapped.{wire_map, without_value}
-use Rattle.ct_model.specs.Next.{Outcome, crash, next, plain, receive, row, submit, turn_at}
-use Rattle.ct_model.specs.Next.{wire_to}
+use Rattle.ct_model.specs.Mapped.{wire_map}
+use Rattle.ct_model.specs.Next.{crash, submit}
 use Rattle.ct_names.specs.Command.{is_good}
-use Rattle.ct_model.specs.Received.{decided}
-use Rattle.ct_model.specs.Rehearsal.{Rehearsal, extended, state_of}
-use Rattle.ct_model.specs.Setting.{Setting}
-use Rattle.ct_model.specs.State.{Member, State, at_serial, is_crashed, member, submissions}
-use Rattle.ct_model.specs.declared.mail.Mail.TheVariants.{Nobody}
-use Rattle.ct_model.specs.declared.moves.Move.TheVariants as moves
-use Rattle.ct_model.specs.declared.phase.Phase.{Phase}
-use Rattle.ct_model.specs.declared.step.Step.{Step}
-use Rattle.ct_model.specs.declared.step.Step.TheVariants as step
 use Rattle.ct_model.specs.declared.wire.Wire.{Wire as AnyWire}
-use Rattle.ct_model.specs.declared.wire.Wire.TheVariants as wire
-use Rattle.ct_model.proofs.Basics.Groups.{member_is}
-use Rattle.ct_model.proofs.Basics.Options.{made-map, some-none, some-same, when-is}
-use Rattle.ct_model.proofs.Basics.Tests.{number_same, same_number}
-use Rattle.ct_model.proofs.Consensus.Readings
-use Rattle.ct_model.proofs.Record.Start.{state-first, submissions-first}
-use Rattle.ct_model.proofs.Relay.Relaying.{history-run}
-use Rattle.ct_model.proofs.Steps.Rows.{begin_row-is, deliver_row-is, follow_row-is, round_row-is}
-use Rattle.ct_grammar.specs.declared.carried.Carried.{Carried}
-use Rattle.ct_grammar.specs.declared.carried.Carried.TheVariants.{Data, Est, Prop, Ack, Nack, Dec}
-use Rattle.ct_merge.specs.Barred.{IsDone}
-use Rattle.ct_merge.specs.Barred.IsDone.{nobody, stopped, unable, unknown}
-use Rattle.ct_merge.specs.Past.{HasDecision, HasMessage, HasPassed, rank, stage}
-use Rattle.ct_merge.specs.Runs.{IsRun}
-use Rattle.ct_merge.specs.Sending.{choosing, concluding, has_before, is_later, is_of_group, is_passed}
-use Rattle.ct_merge.specs.Sending.{is_receipt, is_submission, may_come, may_send, passes, phase_at, phase_in, received, replying}
-use Rattle.ct_merge.specs.Sending.{submitted}
-use Rattle.ct_merge.specs.Unable.{HasProposal, IsOfGroup, SendsNoMore, SkipsRound}
-use Rattle.ct_merge.specs.Unable.SendsNoMore.{elsewhere, past, proposed, skipped}
-use Rattle.ct_merge.specs.declared.full_name.FullName.{FullName}
+use Rattle.ct_model.proofs.Steps.Rows.{begin_row-is, round_row-is}
+use Rattle.ct_merge.specs.Sending.{choosing, concluding, has_before, is_later, is_of_group, is_passed, is_receipt, is_submission, may_come}
+use Rattle.ct_merge.specs.Sending.{may_send, passes, phase_at, phase_in, received, replying, submitted}
+use Rattle.ct_merge.specs.Unable.{HasProposal}
 use Rattle.ct_merge.proofs.Begun.{is_member_of}
 use Rattle.ct_merge.proofs.Running.{by_steps, known, state_next}
 use Rattle.ct_merge.proofs.SentOnce.{counted, stepping}
+use Rattle.ct_names.proofs.Lists
+use Rattle.ct_model.specs.declared.moves.Move.TheVariants as moves
+use Rattle.ct_model.specs.declared.step.Step.TheVariants as step
+use Rattle.ct_model.specs.declared.wire.Wire.TheVariants as wire
+use Rattle.ct_model.proofs.Consensus.Readings
 
 -- ---- what it did
 

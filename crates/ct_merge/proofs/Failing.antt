@@ -1,50 +1,22 @@
 -- Logs with a line that is refused by itself have no merge.
-use Rattle.std.proofs.Common.{◌≡◌, ℕ, ◌+◌, Bool, true, false, List, [], ◌∷◌, Option, Some, None, IfSome, length}
-use Rattle.std.proofs.Common.{inl, inr, refl, sym, ap, ◌∙◌, subst, arith}
-use Rattle.std.specs.Prelude.{◌==◌}
-use Rattle.std.specs.Global.{Vec}
-use Rattle.ct_names.specs.Group.{is_member}
+use Rattle.ct_merge.proofs.Common.{◌≡◌, ℕ, ◌+◌, Bool, true, false, List, [], ◌∷◌, Option, Some, None, IfSome, length, inl, inr, refl, sym}
+use Rattle.ct_merge.proofs.Common.{ap, ◌∙◌, subst, arith, ◌==◌, Vec, is_member, Refusal, Full, actor, test, cause, first_fault, limits}
+use Rattle.ct_merge.proofs.Common.{or_else, tests, IsAway, IsLawful, IsPresent, NamesWaiting, is_waiting, Outcome, next, row, Rehearsal}
+use Rattle.ct_merge.proofs.Common.{extended, line_of, state_of, Setting, State, is_crashed, member, Step, made-then, some-none}
+use Rattle.ct_merge.proofs.Common.{cause-allowed, own_tests-is, next-is, is_stated, stated_text, IsBarred, IsThere, down, refused, own}
+use Rattle.ct_merge.proofs.Common.{step_of, IsRun, Differs, IsAsked, IsCulprit, IsFaultAt, IsRepetition, IsWhy, Tells, NeverMerges, is_full}
+use Rattle.ct_merge.proofs.Common.{is_limit, is_wait, FullName, LogAct, Receive, Crash, LogLine, OwnFault, Culprit, Why, Fault}
 use Rattle.ct_names.specs.declared.limit.Limit.TheVariants.{Submissions, Instances, Rounds, Envelopes, Cells, Steps}
-use Rattle.ct_names.specs.declared.refusal.Refusal.{Refusal}
-use Rattle.ct_names.specs.declared.refusal.Refusal.TheVariants.{Full}
-use Rattle.ct_model.specs.Actor.{actor}
-use Rattle.ct_model.specs.Cause.{at as test, cause, first_fault, limit, limits, or_else, tests}
-use Rattle.ct_model.specs.Lawful.{IsAway, IsLawful, IsPresent, NamesWaiting, is_waiting}
-use Rattle.ct_model.specs.Next.{Outcome, next, row}
+use Rattle.ct_model.specs.Cause.{limit}
 use Rattle.ct_model.specs.Phases.{adopt, choose, conclude, enter, suspect}
-use Rattle.ct_model.specs.Rehearsal.{Rehearsal, extended, line_of, state_of}
-use Rattle.ct_model.specs.Setting.{Setting}
-use Rattle.ct_model.specs.State.{State, is_crashed, member}
-use Rattle.ct_model.specs.declared.step.Step.{Step}
-use Rattle.ct_model.specs.declared.step.Step.TheVariants as step
-use Rattle.ct_model.proofs.Basics.Options.{made-then, some-none}
-use Rattle.ct_model.proofs.Record.Allowed.{cause-allowed}
 use Rattle.ct_model.proofs.Record.Causes.{cause-present, own_tests}
-use Rattle.ct_model.proofs.Record.Limits.{own_tests-is}
-use Rattle.ct_model.proofs.Relay.Messages.{next-is}
-use Rattle.ct_play.specs.Stating.{is_stated, stated_text}
-use Rattle.ct_play.specs.declared.line_fault.LineFault.TheVariants as fault
-use Rattle.ct_merge.specs.Barred.{IsBarred, IsThere}
-use Rattle.ct_merge.specs.Barred.IsBarred.{down, refused}
-use Rattle.ct_merge.specs.Logs.{own}
-use Rattle.ct_merge.specs.Merging.{step_of}
-use Rattle.ct_merge.specs.Runs.{IsRun}
-use Rattle.ct_merge.specs.Stops.{Differs, IsAsked, IsCulprit, IsFaultAt, IsRepetition, IsWhy, Tells}
-use Rattle.ct_merge.specs.Waits.{NeverMerges, is_full, is_limit, is_wait}
-use Rattle.ct_merge.specs.declared.full_name.FullName.{FullName}
-use Rattle.ct_merge.specs.declared.log_act.LogAct.{LogAct}
-use Rattle.ct_merge.specs.declared.log_act.LogAct.TheVariants.{Receive}
-use Rattle.ct_merge.specs.declared.log_act.LogAct.TheVariants.{Crash}
-use Rattle.ct_merge.specs.declared.log_line.LogLine.{LogLine}
-use Rattle.ct_merge.specs.declared.own_fault.OwnFault.{OwnFault}
-use Rattle.ct_merge.specs.declared.own_fault.OwnFault.TheVariants as own_fault
-use Rattle.ct_merge.specs.declared.verdict.Culprit.{Culprit}
-use Rattle.ct_merge.specs.declared.verdict.Why.{Why}
-use Rattle.ct_merge.specs.declared.verdict.Why.TheVariants.{Fault}
 use Rattle.ct_merge.proofs.Held.{one_held}
 use Rattle.ct_merge.proofs.Local.{acts_of}
 use Rattle.ct_merge.proofs.SentOnce.{one_receipt}
 use Rattle.ct_merge.proofs.Telling.{IsReceipt, IsToldStep, receipt_by, told_step}
+use Rattle.ct_model.specs.declared.step.Step.TheVariants as step
+use Rattle.ct_play.specs.declared.line_fault.LineFault.TheVariants as fault
+use Rattle.ct_merge.specs.declared.own_fault.OwnFault.TheVariants as own_fault
 
 -- ---- the step of a line
 

@@ -1,16 +1,7 @@
 -- Lines at which logs stop.
-use Rattle.std.proofs.Common.{◌≡◌, ◌≢◌, ℕ, ◌≤◌, Bool, true, false, List, Some, sym, subst, refl}
-use Rattle.std.specs.Global.{Vec}
-use Rattle.std.specs.Prelude.{slice_get}
-use Rattle.ct_names.specs.Group.{is_member}
-use Rattle.ct_model.specs.Rehearsal.{Rehearsal}
-use Rattle.ct_model.specs.Setting.{Setting}
-use Rattle.ct_play.specs.Faults.{UnlessShort, is_short}
-use Rattle.ct_merge.specs.Logs.{log_of}
-use Rattle.ct_merge.specs.Merging.{IsLater, IsTakenFrom, Taken, count_of}
-use Rattle.ct_merge.specs.Stops.{IsCulprit, IsHalt, IsStuckIn, halted_at, line_fault_of}
-use Rattle.ct_merge.specs.declared.own_fault.OwnFault.{OwnFault}
-use Rattle.ct_merge.specs.declared.log_line.LogLine.{LogLine}
+use Rattle.ct_merge.proofs.Common.{◌≡◌, ◌≢◌, ℕ, ◌≤◌, Bool, true, false, List, Some, sym, subst, refl, Vec, slice_get, is_member, Rehearsal}
+use Rattle.ct_merge.proofs.Common.{Setting, UnlessShort, is_short, log_of, IsLater, IsTakenFrom, Taken, count_of, IsCulprit, IsHalt}
+use Rattle.ct_merge.proofs.Common.{IsStuckIn, halted_at, line_fault_of, OwnFault, LogLine}
 use Rattle.ct_merge.proofs.Advancing.{advanced}
 use Rattle.ct_merge.proofs.Stopping.{unless_more}
 

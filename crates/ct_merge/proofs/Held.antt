@@ -1,26 +1,11 @@
 -- Logs of which none goes on, or with lines that are never taken, have no merge.
-use Rattle.std.proofs.Common.{◌≡◌, ℕ, ◌<◌, true, List, Some, length, take, refl, sym, ap, ◌∙◌, subst, arith, ◌==◌, Bool}
-use Rattle.std.specs.Prelude.{is_some, slice_get}
-use Rattle.std.specs.Global.{Vec}
-use Rattle.std.proofs.lemmas.List.{length-take-le}
-use Rattle.ct_names.specs.Group.{IsMember, is_member}
-use Rattle.ct_model.specs.Rehearsal.{Rehearsal}
-use Rattle.ct_model.specs.Setting.{Setting}
-use Rattle.ct_model.proofs.Basics.Groups.{member_is}
-use Rattle.ct_merge.specs.Barred.{IsBarred, IsThere}
-use Rattle.ct_merge.specs.Barred.IsBarred.{waits}
-use Rattle.ct_merge.specs.Logs.{IsTold, log_of, own}
-use Rattle.ct_merge.specs.Merging.{IsTakenFrom, IsTakenTo, Taken, count_of}
-use Rattle.ct_merge.specs.Runs.{IsBegun, IsRun}
-use Rattle.ct_merge.specs.Waits.{AllWait, HasNoMerge, IsUnsent, SomeWaits, AllBegin, NeverMerges}
-use Rattle.ct_merge.specs.declared.full_name.FullName.{FullName}
-use Rattle.ct_merge.specs.declared.log_line.LogLine.{LogLine}
+use Rattle.ct_merge.proofs.Common.{◌≡◌, ℕ, ◌<◌, true, List, Some, length, take, refl, sym, ap, ◌∙◌, subst, arith, ◌==◌, Bool, is_some}
+use Rattle.ct_merge.proofs.Common.{slice_get, Vec, length-take-le, IsMember, is_member, Rehearsal, Setting, member_is, IsBarred, IsThere}
+use Rattle.ct_merge.proofs.Common.{waits, IsTold, log_of, own, IsTakenFrom, IsTakenTo, Taken, count_of, IsBegun, IsRun, AllWait, HasNoMerge}
+use Rattle.ct_merge.proofs.Common.{IsUnsent, SomeWaits, AllBegin, NeverMerges, FullName, LogLine, some-same, number_same, same_number}
+use Rattle.ct_merge.proofs.Common.{get-front, IsNext}
 use Rattle.ct_merge.proofs.Beyond.{no_merge, there_named, there_wire}
 use Rattle.ct_merge.proofs.Begun.{is_member_of, zip_length}
-use Rattle.ct_model.proofs.Basics.Options.{some-same}
-use Rattle.ct_model.proofs.Basics.Tests.{number_same, same_number}
-use Rattle.ct_model.proofs.Record.Senders.{get-front}
-use Rattle.ct_merge.specs.Stops.{IsNext}
 use Rattle.ct_merge.proofs.Advancing.{taken_longer}
 use Rattle.ct_merge.proofs.Moments.{get_below}
 

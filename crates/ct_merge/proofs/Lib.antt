@@ -5,6 +5,7 @@ pub mod Beyond
 pub mod Bringing
 pub mod Circles
 pub mod Coming
+pub mod Common
 pub mod Failing
 pub mod Halting
 pub mod Held

@@ -1,17 +1,9 @@
 -- What a member's step depends on.
-use Rattle.std.proofs.Common.{◌≡◌, ℕ, Bool, true, false, not, ◌&&◌, Some, None, refl, sym, ap, ◌∙◌}
-use Rattle.std.specs.Prelude.{option_map, if◌then◌else◌}
-use Rattle.ct_names.specs.Group.{is_member}
-use Rattle.ct_model.specs.Actor.{actor}
-use Rattle.ct_model.specs.Next.{can_act, row, receive, after, next}
-use Rattle.ct_model.specs.Setting.{Setting}
-use Rattle.ct_model.specs.State.{State, Member, member, submissions}
-use Rattle.ct_model.specs.declared.step.Step.{Step}
-use Rattle.ct_model.proofs.Relay.Messages.{IsStep}
-use Rattle.ct_merge.specs.Local.{outcome_of, IsLike, gets}
-use Rattle.ct_merge.specs.Merging.{step_of}
-use Rattle.ct_merge.specs.declared.log_act.LogAct.{LogAct}
-use Rattle.ct_merge.specs.declared.log_act.LogAct.TheVariants.{Submit, Receive}
+use Rattle.ct_merge.proofs.Common.{◌≡◌, ℕ, Bool, true, false, not, ◌&&◌, Some, None, refl, sym, ap, ◌∙◌, option_map, if◌then◌else◌}
+use Rattle.ct_merge.proofs.Common.{is_member, actor, row, receive, after, Setting, State, Member, member, submissions, Step, IsStep, IsLike}
+use Rattle.ct_merge.proofs.Common.{gets, step_of, LogAct, Submit, Receive}
+use Rattle.ct_model.specs.Next.{can_act, next}
+use Rattle.ct_merge.specs.Local.{outcome_of}
 
 pub acts_of : (p k : ℕ) (act : LogAct) → actor (step_of p k act) ≡ p
 acts_of p k (Submit c) = refl

@@ -1,28 +1,11 @@
 -- The own steps of members in a run.
-use Rattle.std.proofs.Common.{◌≡◌, ℕ, zero, suc, ◌+◌, ◌<◌, ◌==◌, ◌&&◌, Bool, true, false, not, List, [], ◌∷◌, ◌++◌, Some}
-use Rattle.std.proofs.Common.{length, inl, inr, ◌⊎◌, refl, sym, ap, ◌∙◌, subst, arith, replicate}
-use Rattle.std.specs.Prelude.{slice_get}
-use Rattle.std.proofs.lemmas.Bool.Decides.{nat_tests}
-use Rattle.ct_names.specs.Group.{IsMember}
-use Rattle.ct_model.specs.Actor.{actor}
-use Rattle.ct_model.specs.AtValue.{Wire}
-use Rattle.ct_model.specs.Next.{Outcome, next, row, plain, wire_to}
-use Rattle.ct_model.specs.Rehearsal.{Rehearsal, state_of, empty, extended}
-use Rattle.ct_model.specs.Setting.{Setting}
-use Rattle.ct_model.specs.State.{State, Member, member, new_member, submissions}
-use Rattle.ct_model.specs.declared.mail.Mail.TheVariants.{Nobody}
-use Rattle.ct_model.specs.declared.step.Step.{Step}
-use Rattle.ct_model.specs.declared.step.Step.TheVariants.{Repeat}
-use Rattle.ct_model.proofs.Basics.Options.{some-same, some-none, made-map}
-use Rattle.ct_model.proofs.Record.Members.{p_or_other}
-use Rattle.ct_model.proofs.Record.Senders.{get-front}
-use Rattle.ct_model.proofs.Record.Start.{state-first, member-first, submissions-first}
-use Rattle.ct_model.proofs.Relay.Messages.{IsStep}
-use Rattle.ct_merge.specs.Local.{IsLike}
-use Rattle.ct_merge.specs.Logs.{Moment, moments, is_own, is_repeat, own}
-use Rattle.ct_merge.specs.Runs.{IsRun}
-use Rattle.ct_merge.proofs.SentOnce.{stepping, get_cases, member_mine, member_theirs}
-use Rattle.ct_merge.proofs.SentOnce.{count_mine, count_theirs}
+use Rattle.ct_merge.proofs.Common.{◌≡◌, ℕ, zero, suc, ◌+◌, ◌<◌, ◌==◌, ◌&&◌, Bool, true, false, not, List, [], ◌∷◌, ◌++◌, Some, length, inl}
+use Rattle.ct_merge.proofs.Common.{inr, ◌⊎◌, refl, sym, ap, ◌∙◌, subst, arith, replicate, slice_get, nat_tests, IsMember, actor, Wire}
+use Rattle.ct_merge.proofs.Common.{Outcome, next, row, plain, wire_to, Rehearsal, state_of, empty, extended, Setting, State, Member, member}
+use Rattle.ct_merge.proofs.Common.{new_member, submissions, Nobody, Step, Repeat, some-same, some-none, made-map, p_or_other, get-front}
+use Rattle.ct_merge.proofs.Common.{state-first, member-first, submissions-first, IsStep, IsLike, Moment, is_own, is_repeat, IsRun}
+use Rattle.ct_merge.specs.Logs.{moments, own}
+use Rattle.ct_merge.proofs.SentOnce.{stepping, get_cases, member_mine, member_theirs, count_mine, count_theirs}
 use Rattle.ct_merge.proofs.Owning.{at, only, own_grown, own_more}
 use Rattle.ct_merge.proofs.Running.{known, by_steps, state_next}
 

@@ -1,36 +1,17 @@
 -- What members send is of their group, and counted from 1 on.
-use Rattle.std.proofs.Common.{◌≡◌, ℕ, zero, suc, ◌+◌, ◌≤◌, Bool, true, false, Some, map, inl, inr, sym, ap, ◌∙◌, subst}
-use Rattle.std.proofs.Common.{arith}
-use Rattle.std.specs.Prelude.{if◌then◌else◌}
-use Rattle.ct_names.specs.Group.{IsMember}
-use Rattle.ct_names.specs.Membership.{IsIn}
-use Rattle.ct_model.specs.Actor.{actor}
-use Rattle.ct_model.specs.AtValue.{Envelope, Mail, Standing, Turn, Wire}
-use Rattle.ct_model.specs.Next.{Outcome, is_relayed, next, own_ballots, row, turn_at}
-use Rattle.ct_model.specs.Phases.{is_gather, is_rest, is_tally, is_wait}
-use Rattle.ct_model.specs.Received.{decided}
-use Rattle.ct_model.specs.Rehearsal.{Rehearsal, empty, extended, state_of}
-use Rattle.ct_model.specs.Setting.{Setting}
-use Rattle.ct_model.specs.State.{Member, State, at_serial, member}
-use Rattle.ct_model.specs.declared.mail.Mail.TheVariants.{All, Nobody}
-use Rattle.ct_model.specs.declared.moves.Move.{Move}
-use Rattle.ct_model.specs.declared.moves.Move.TheVariants.{Adopt, Choose, Conclude, Enter, Suspect}
-use Rattle.ct_model.specs.declared.phase.Phase.{Phase}
-use Rattle.ct_model.specs.declared.step.Step.{Step}
-use Rattle.ct_model.specs.declared.wire.Wire.TheVariants as wire
-use Rattle.ct_model.proofs.Basics.Options.{some-none}
-use Rattle.ct_model.proofs.Consensus.Facts.{Holds, member_is}
-use Rattle.ct_model.proofs.Consensus.Sent.{Carries, Sent, Sent-cases, Sent-wire, get-wire}
-use Rattle.ct_model.proofs.Record.Members.{p_or_other}
-use Rattle.ct_model.proofs.Record.Start.{member-first, sent-first, state-first}
-use Rattle.ct_model.proofs.Steps.Rows.{adopt-is, choose-is, conclude-is, enter-is, suspect-is}
-use Rattle.ct_model.proofs.Steps.Shapes.{by_shape}
-use Rattle.ct_play.specs.Picking.{carried_of}
-use Rattle.ct_merge.specs.Deeds.{IsFrom, letter}
-use Rattle.ct_merge.specs.Runs.{IsRun}
-use Rattle.ct_merge.specs.Unable.{IsOfGroup}
+use Rattle.ct_merge.proofs.Common.{◌≡◌, ℕ, zero, suc, ◌+◌, ◌≤◌, Bool, true, false, Some, map, inl, inr, sym, ap, ◌∙◌, subst, arith}
+use Rattle.ct_merge.proofs.Common.{if◌then◌else◌, IsMember, IsIn, actor, Envelope, Mail, Standing, Turn, Wire, Outcome, next, own_ballots}
+use Rattle.ct_merge.proofs.Common.{row, turn_at, is_gather, is_rest, is_tally, decided, Rehearsal, empty, extended, state_of, Setting}
+use Rattle.ct_merge.proofs.Common.{Member, State, at_serial, member, All, Nobody, Move, Adopt, Choose, Conclude, Enter, Suspect, Phase}
+use Rattle.ct_merge.proofs.Common.{Step, some-none, Holds, Carries, get-wire, p_or_other, member-first, sent-first, state-first, adopt-is}
+use Rattle.ct_merge.proofs.Common.{choose-is, conclude-is, enter-is, suspect-is, by_shape, carried_of, IsFrom, letter, IsRun, IsOfGroup}
+use Rattle.ct_model.specs.Next.{is_relayed}
+use Rattle.ct_model.specs.Phases.{is_wait}
+use Rattle.ct_model.proofs.Consensus.Facts.{member_is}
+use Rattle.ct_model.proofs.Consensus.Sent.{Sent, Sent-cases, Sent-wire}
 use Rattle.ct_merge.proofs.Running.{by_steps, known, state_next}
 use Rattle.ct_merge.proofs.SentOnce.{member_mine, member_theirs, stepping}
+use Rattle.ct_model.specs.declared.wire.Wire.TheVariants as wire
 
 -- what the mail carries is of a group of n
 abbrev AreOfGroup : ℕ → Mail → Type 0

@@ -1,39 +1,21 @@
 -- What a step came to is the same in two runs that find its member alike.
-use Rattle.std.proofs.Common.{◌≡◌, ℕ, zero, suc, ◌+◌, Bool, true, false, List, [], ◌∷◌, ◌++◌, Option, Some, None, length}
-use Rattle.std.proofs.Common.{refl, sym, ap, ◌∙◌, subst, arith}
-use Rattle.std.specs.Prelude.{slice_get, option_map, option_and_then, unwrap_or, is_some, if◌then◌else◌}
+use Rattle.ct_merge.proofs.Common.{◌≡◌, ℕ, zero, suc, ◌+◌, Bool, true, false, List, [], ◌∷◌, ◌++◌, Option, Some, None, length, refl, sym}
+use Rattle.ct_merge.proofs.Common.{ap, ◌∙◌, subst, arith, slice_get, option_map, option_and_then, is_some, if◌then◌else◌, IsMember}
+use Rattle.ct_merge.proofs.Common.{is_member, Envelope, Wire, order, without_value, Outcome, next, receive, row, wire_to, Rehearsal}
+use Rattle.ct_merge.proofs.Common.{state_of, extended, Setting, Member, State, at_serial, member, value_of, made-map, some-none, some-same}
+use Rattle.ct_merge.proofs.Common.{get-front, IsStep, next-is, deliver_row-is, follow_row-is, IsSame, deed_of, letter, outcome_of, Moment}
+use Rattle.ct_merge.proofs.Common.{act_of, own, stated_text, step_of, IsRun, FullName, LogAct, Receive, Begin, Deliver, Follow}
+use Rattle.std.specs.Prelude.{unwrap_or}
 use Rattle.ct_names.specs.Batch.{Batch}
-use Rattle.ct_names.specs.Group.{IsMember, is_member}
 use Rattle.ct_names.specs.Prefix.{IsPrefix}
-use Rattle.ct_model.specs.AtValue.{Envelope, Wire}
-use Rattle.ct_model.specs.Cause.{order}
-use Rattle.ct_model.specs.Mapped.{without_value}
-use Rattle.ct_model.specs.Next.{Outcome, next, receive, row, wire_to}
-use Rattle.ct_model.specs.Rehearsal.{Rehearsal, state_of, extended}
-use Rattle.ct_model.specs.Setting.{Setting}
-use Rattle.ct_model.specs.State.{Member, State, at_serial, member}
-use Rattle.ct_model.specs.Wire.{value_of}
-use Rattle.ct_model.proofs.Basics.Options.{made-map, some-none, some-same}
 use Rattle.ct_model.proofs.Delivery.Prefixes.{order-place, order-prefix}
 use Rattle.ct_model.proofs.Delivery.Safety.{safe-run}
-use Rattle.ct_model.proofs.Record.Senders.{get-front}
-use Rattle.ct_model.proofs.Relay.Messages.{IsStep, next-is}
-use Rattle.ct_model.proofs.Steps.Rows.{deliver_row-is, follow_row-is}
 use Rattle.ct_world.specs.Standing.{estimate_by, heard_by}
 use Rattle.ct_world.specs.World.{if_member, member_of}
 use Rattle.ct_text.specs.Standing.{batch_text, estimate_alone, estimate_of, instance_of}
 use Rattle.ct_text.specs.Shapes.{estimate_text, set_text, value_text}
 use Rattle.ct_play.specs.Stating.{carried_text, envelope_text}
-use Rattle.ct_merge.specs.Deeds.{IsSame, deed_of, letter}
-use Rattle.ct_merge.specs.Local.{outcome_of}
-use Rattle.ct_merge.specs.Logs.{Moment, act_of, own}
-use Rattle.ct_play.specs.Stating.{stated_text}
-use Rattle.ct_merge.specs.Merging.{step_of}
-use Rattle.ct_merge.specs.Runs.{IsRun}
-use Rattle.ct_merge.specs.declared.full_name.FullName.{FullName}
-use Rattle.ct_merge.specs.declared.log_act.LogAct.{LogAct}
-use Rattle.ct_merge.specs.declared.log_act.LogAct.TheVariants.{Receive, Begin, Enter, Choose, Adopt, Conclude, Deliver}
-use Rattle.ct_merge.specs.declared.log_act.LogAct.TheVariants.{Follow}
+use Rattle.ct_merge.specs.declared.log_act.LogAct.TheVariants.{Enter, Choose, Adopt, Conclude}
 use Rattle.ct_merge.proofs.Begun.{is_member_of}
 use Rattle.ct_merge.proofs.Local.{acts_of, outcome_is}
 use Rattle.ct_merge.proofs.Moments.{IsPlaced, get_last, placed}

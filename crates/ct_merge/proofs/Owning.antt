@@ -1,11 +1,7 @@
 -- The own steps of members after one step more.
-use Rattle.std.proofs.Common.{◌≡◌, ℕ, ◌+◌, Bool, true, false, List, [], ◌∷◌, ◌++◌, ap, sym, ◌∙◌, append-nil, append_assoc, length}
-use Rattle.std.proofs.Common.{length-append}
-use Rattle.std.specs.Prelude.{filter, if◌then◌else◌}
-use Rattle.std.proofs.lemmas.List.Elements.{filter-append}
-use Rattle.ct_model.specs.Rehearsal.{Rehearsal, empty, extended}
-use Rattle.ct_model.specs.declared.step.Step.{Step}
-use Rattle.ct_merge.specs.Logs.{Moment, is_own, moments, own}
+use Rattle.ct_merge.proofs.Common.{◌≡◌, ℕ, ◌+◌, Bool, true, false, List, [], ◌∷◌, ◌++◌, ap, sym, ◌∙◌, append-nil, append_assoc, length}
+use Rattle.ct_merge.proofs.Common.{length-append, filter, if◌then◌else◌, filter-append, Rehearsal, empty, extended, Step, Moment, is_own}
+use Rattle.ct_merge.specs.Logs.{moments, own}
 
 -- the record with these steps behind its own
 abbrev pub longer : Rehearsal → List Step → Rehearsal

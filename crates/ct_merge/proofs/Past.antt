@@ -1,43 +1,22 @@
 -- What a member has sent it can't send again.
-use Rattle.std.proofs.Common.{◌≡◌, ◌≢◌, ℕ, ◌+◌, ◌*◌, ◌≤◌, Bool, true, false, List, [], ◌∷◌, ◌++◌, Some, None, length}
-use Rattle.std.proofs.Common.{refl, sym, ap, ◌∙◌, subst, inl, arith}
-use Rattle.std.specs.Prelude.{if◌then◌else◌}
-use Rattle.std.proofs.lemmas.Bool.Decides.{nat_tests}
+use Rattle.ct_merge.proofs.Common.{◌≡◌, ◌≢◌, ℕ, ◌+◌, ◌*◌, ◌≤◌, Bool, true, false, List, [], ◌∷◌, ◌++◌, Some, None, length, refl, sym, ap}
+use Rattle.ct_merge.proofs.Common.{◌∙◌, subst, inl, arith, if◌then◌else◌, nat_tests, coordinator, IsMember, IsIn, Value, has, Wire}
+use Rattle.ct_merge.proofs.Common.{Standing, Turn, Mail, KnowsMessages, Outcome, row, receive, turned, turn_at, own_ballots, wire_to}
+use Rattle.ct_merge.proofs.Common.{is_rest, is_gather, is_tally, decided, Setting, State, Member, member, submissions, Nobody, One, All}
+use Rattle.ct_merge.proofs.Common.{Move, Enter, Choose, Adopt, Suspect, Conclude, Phase, Step, some-same, some-none, Holds, Carries}
+use Rattle.ct_merge.proofs.Common.{received-by, enter-is, choose-is, adopt-is, suspect-is, conclude-is, by_shape, carried_of, rank, stage}
+use Rattle.ct_merge.proofs.Common.{HasPassed, HasMessage, HasDecision, IsPast, Carried, Data, Est, Prop, Ack, Nack, Dec}
 use Rattle.ct_names.specs.declared.command.Command.{Command}
-use Rattle.ct_names.specs.Group.{coordinator, IsMember}
-use Rattle.ct_names.specs.Membership.{IsIn}
 use Rattle.ct_names.specs.Message.{Message}
-use Rattle.ct_names.specs.Value.{Value, has}
+use Rattle.ct_model.specs.Next.{begin, deliver, follow, is_relayed, next_message}
+use Rattle.ct_model.specs.Phases.{is_wait, entered, chosen, adopted, suspected, replied_phase}
+use Rattle.ct_model.specs.Received.{received, has_decision, is_decision}
+use Rattle.ct_model.specs.declared.phase.Phase.TheVariants.{Rest, Wait}
+use Rattle.ct_model.proofs.Record.Envelopes.{wire_to-sent}
 use Rattle.ct_names.proofs.Lists
 use Rattle.ct_names.proofs.Values
-use Rattle.ct_model.specs.AtValue.{Wire, Standing, Turn, Mail}
-use Rattle.ct_model.specs.Knowledge.{KnowsMessages}
-use Rattle.ct_model.specs.Next.{Outcome, row, receive, begin, deliver, follow, turned, turn_at, is_relayed, own_ballots}
-use Rattle.ct_model.specs.Next.{next_message, wire_to}
-use Rattle.ct_model.specs.Phases.{is_rest, is_gather, is_wait, is_tally, entered, chosen, adopted, suspected}
-use Rattle.ct_model.specs.Phases.{replied_phase}
-use Rattle.ct_model.specs.Received.{received, decided, has_decision, is_decision}
-use Rattle.ct_model.specs.Setting.{Setting}
-use Rattle.ct_model.specs.State.{State, Member, member, submissions}
-use Rattle.ct_model.specs.declared.mail.Mail.TheVariants.{Nobody, One, All}
-use Rattle.ct_model.specs.declared.moves.Move.{Move}
-use Rattle.ct_model.specs.declared.moves.Move.TheVariants.{Enter, Choose, Adopt, Suspect, Conclude}
-use Rattle.ct_model.specs.declared.phase.Phase.{Phase}
-use Rattle.ct_model.specs.declared.phase.Phase.TheVariants.{Rest, Wait}
-use Rattle.ct_model.specs.declared.step.Step.{Step}
 use Rattle.ct_model.specs.declared.wire.Wire.TheVariants as wire
-use Rattle.ct_model.proofs.Basics.Options.{some-same, some-none}
-use Rattle.ct_model.proofs.Consensus.Facts.{Holds}
 use Rattle.ct_model.proofs.Consensus.Readings
-use Rattle.ct_model.proofs.Consensus.Sent.{Carries}
-use Rattle.ct_model.proofs.Record.Envelopes.{wire_to-sent}
-use Rattle.ct_model.proofs.Relay.Messages.{received-by}
-use Rattle.ct_model.proofs.Steps.Rows.{enter-is, choose-is, adopt-is, suspect-is, conclude-is}
-use Rattle.ct_model.proofs.Steps.Shapes.{by_shape}
-use Rattle.ct_play.specs.Picking.{carried_of}
-use Rattle.ct_merge.specs.Past.{rank, stage, HasPassed, HasMessage, HasDecision, IsPast}
-use Rattle.ct_grammar.specs.declared.carried.Carried.{Carried}
-use Rattle.ct_grammar.specs.declared.carried.Carried.TheVariants.{Data, Est, Prop, Ack, Nack, Dec}
 
 -- ---- on from one member to a later one
 

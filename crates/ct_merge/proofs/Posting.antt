@@ -1,29 +1,11 @@
 -- What own steps send, and the serials of that.
-use Rattle.std.proofs.Common.{◌≡◌, ℕ, suc, ◌+◌, ◌-◌, ◌<◌, true, List, ◌++◌, Some}
-use Rattle.std.proofs.Common.{length, length-append, inl, inr, refl, sym, ap, ◌∙◌, subst, arith, replicate}
-use Rattle.std.specs.Prelude.{slice_get}
-use Rattle.std.proofs.lemmas.Bool.{cases_Bool}
-use Rattle.ct_model.specs.Actor.{actor}
-use Rattle.ct_model.specs.AtValue.{Envelope, Wire}
-use Rattle.ct_model.specs.Next.{Outcome, next}
-use Rattle.ct_model.specs.Rehearsal.{Rehearsal, state_of, empty, extended}
-use Rattle.ct_model.specs.Senders.{senders}
-use Rattle.ct_model.specs.Setting.{Setting}
-use Rattle.ct_model.specs.State.{State, member, at_serial}
-use Rattle.ct_model.specs.Wire.{envelopes}
-use Rattle.ct_model.specs.declared.step.Step.{Step}
-use Rattle.ct_model.proofs.Basics.Options.{some-same, some-none}
-use Rattle.ct_model.proofs.Consensus.Sent.{Carries, carries-mail, get-wire}
-use Rattle.ct_model.proofs.Record.Senders.{at-front}
-use Rattle.ct_model.proofs.Relay.Messages.{IsStep}
-use Rattle.ct_model.proofs.Relay.Relaying.{history-run}
-use Rattle.ct_merge.specs.Deeds.{deed_of, letter, Sends, IsFrom, IsPosted}
-use Rattle.ct_merge.specs.Logs.{Moment, is_own, is_repeat, own}
-use Rattle.ct_play.specs.Picking.{carried_of}
-use Rattle.ct_merge.specs.Runs.{IsRun, IsNamed}
+use Rattle.ct_merge.proofs.Common.{◌≡◌, ℕ, suc, ◌+◌, ◌-◌, ◌<◌, true, List, ◌++◌, Some, length, length-append, inl, inr, refl, sym, ap, ◌∙◌}
+use Rattle.ct_merge.proofs.Common.{subst, arith, replicate, slice_get, cases_Bool, actor, Envelope, Wire, Outcome, next, Rehearsal}
+use Rattle.ct_merge.proofs.Common.{state_of, empty, extended, senders, Setting, State, member, at_serial, envelopes, Step, some-same}
+use Rattle.ct_merge.proofs.Common.{some-none, Carries, carries-mail, get-wire, at-front, IsStep, history-run, deed_of, letter, Sends}
+use Rattle.ct_merge.proofs.Common.{IsFrom, IsPosted, Moment, is_own, is_repeat, own, carried_of, IsRun, IsNamed}
 use Rattle.ct_merge.proofs.Local.{outcome_is}
-use Rattle.ct_merge.proofs.Moments.{get_back, get_below, get_last, get_many, no_own, not_own, own_actor, own_cases, own_front}
-use Rattle.ct_merge.proofs.Moments.{repeat_is}
+use Rattle.ct_merge.proofs.Moments.{get_back, get_below, get_last, get_many, no_own, not_own, own_actor, own_cases, own_front, repeat_is}
 use Rattle.ct_merge.proofs.SentOnce.{PastIn, stepping, sent_more, named_cases, none_named, one_each, past_not, named_past}
 use Rattle.ct_merge.proofs.Owning.{at, only, own_more}
 use Rattle.ct_merge.proofs.Running.{known, by_steps, state_next, senders_next}

@@ -1,24 +1,12 @@
 -- What holds of every run.
-use Rattle.std.proofs.Common.{◌≡◌, ℕ, ◌-◌, List, [], ◌∷◌, ◌++◌, Some, length, sym, ap, ◌∙◌, subst}
-use Rattle.std.proofs.Common.{append-nil, append_assoc, replicate}
-use Rattle.std.specs.Prelude.{option_and_then}
-use Rattle.std.specs.Option.{option_map_or}
-use Rattle.ct_model.specs.Actor.{actor}
-use Rattle.ct_model.specs.Knowledge.{KnowsMessages}
-use Rattle.ct_model.specs.Next.{next}
-use Rattle.ct_model.specs.Rehearsal.{Rehearsal, state_of, empty, extended}
+use Rattle.ct_merge.proofs.Common.{◌≡◌, ℕ, ◌-◌, List, [], ◌∷◌, ◌++◌, Some, length, sym, ap, ◌∙◌, subst, append-nil, append_assoc, replicate}
+use Rattle.ct_merge.proofs.Common.{option_and_then, option_map_or, actor, KnowsMessages, next, Rehearsal, state_of, empty, extended}
+use Rattle.ct_merge.proofs.Common.{Setting, State, first_state, Step, some-same, made-then, Holds, state-first, knows-first, knows-next}
+use Rattle.ct_merge.proofs.Common.{IsRun}
 use Rattle.ct_model.specs.Run.{run, run_from}
 use Rattle.ct_model.specs.Senders.{senders, senders_from}
-use Rattle.ct_model.specs.Setting.{Setting}
-use Rattle.ct_model.specs.State.{State, first_state}
-use Rattle.ct_model.specs.declared.step.Step.{Step}
-use Rattle.ct_model.proofs.Basics.Options.{some-same, made-then}
-use Rattle.ct_model.proofs.Consensus.Facts.{Holds}
 use Rattle.ct_model.proofs.Consensus.Runs.{Holds-run}
 use Rattle.ct_model.proofs.Record.Runs.{state_of-push, run-push, stepped-next, kept-sized}
-use Rattle.ct_model.proofs.Record.Start.{state-first, knows-first}
-use Rattle.ct_model.proofs.Relay.Messages.{knows-next}
-use Rattle.ct_merge.specs.Runs.{IsRun}
 
 -- the state after an enabled step
 pub state_next : (w : Rehearsal) (step : Step) (h : State) → next w.setting (state_of w) step ≡ Some h → state_of (extended w step) ≡ h

@@ -1,31 +1,12 @@
 -- A line that stands in two runs leaves its member the same, and sends the same.
-use Rattle.std.proofs.Common.{◌≡◌, ℕ, zero, suc, ◌+◌, ◌<◌, ◌≤◌, Option, Some, length}
-use Rattle.std.proofs.Common.{inl, inr, ◌⊎◌, refl, sym, ap, ◌∙◌, subst, arith}
-use Rattle.std.specs.Prelude.{slice_get, nat_lt}
-use Rattle.std.proofs.lemmas.Bool.{cases_Bool}
-use Rattle.std.proofs.lemmas.Bool.Decides.{nat_tests}
-use Rattle.ct_names.specs.Group.{IsMember}
-use Rattle.ct_model.specs.Actor.{actor}
-use Rattle.ct_model.specs.AtValue.{Wire}
-use Rattle.ct_model.specs.Next.{Outcome, next, wire_to}
-use Rattle.ct_model.specs.Rehearsal.{Rehearsal, state_of, empty, extended}
-use Rattle.ct_model.specs.Setting.{Setting}
-use Rattle.ct_model.specs.State.{State, member, submissions}
-use Rattle.ct_model.specs.Wire.{envelopes}
-use Rattle.ct_model.specs.declared.step.Step.{Step}
-use Rattle.ct_model.proofs.Basics.Options.{some-same, some-none}
-use Rattle.ct_model.proofs.Relay.Messages.{next-is}
-use Rattle.ct_merge.specs.Deeds.{deed_of, letter, Sends, IsPosted, IsSame}
-use Rattle.ct_merge.specs.Local.{outcome_of, IsLike, gets}
-use Rattle.ct_merge.specs.Logs.{Moment, act_of, own}
-use Rattle.ct_play.specs.Picking.{carried_of}
-use Rattle.ct_merge.specs.Runs.{IsRun}
-use Rattle.ct_merge.specs.declared.full_name.FullName.{FullName}
-use Rattle.ct_merge.specs.declared.log_act.LogAct.{LogAct}
-use Rattle.ct_merge.specs.declared.log_act.LogAct.TheVariants.{Receive}
+use Rattle.ct_merge.proofs.Common.{◌≡◌, ℕ, zero, suc, ◌+◌, ◌<◌, ◌≤◌, Option, Some, length, inl, inr, ◌⊎◌, refl, sym, ap, ◌∙◌, subst, arith}
+use Rattle.ct_merge.proofs.Common.{slice_get, nat_lt, cases_Bool, nat_tests, IsMember, actor, Wire, Outcome, next, wire_to, Rehearsal}
+use Rattle.ct_merge.proofs.Common.{state_of, empty, extended, Setting, State, member, submissions, envelopes, Step, some-same, some-none}
+use Rattle.ct_merge.proofs.Common.{next-is, deed_of, letter, Sends, IsPosted, IsSame, outcome_of, IsLike, gets, Moment, act_of, own}
+use Rattle.ct_merge.proofs.Common.{carried_of, IsRun, FullName, LogAct, Receive}
 use Rattle.ct_merge.proofs.Local.{outcome_is, outcome_local}
-use Rattle.ct_merge.proofs.Moments.{IsPlaced, IsUpTo, get_below, get_there, like_back, like_on, no_own, own_actor}
-use Rattle.ct_merge.proofs.Moments.{own_cases, own_front, placed, up_to}
+use Rattle.ct_merge.proofs.Moments.{IsPlaced, IsUpTo, get_below, get_there, like_back, like_on, no_own, own_actor, own_cases, own_front}
+use Rattle.ct_merge.proofs.Moments.{placed, up_to}
 use Rattle.ct_merge.proofs.SentOnce.{count_mine, member_mine, named_past}
 use Rattle.ct_merge.proofs.Owning.{at}
 use Rattle.ct_merge.proofs.Posting.{is_named, posted, sends_apart, sends_one}

@@ -1,35 +1,15 @@
 -- No two envelopes have one sender, one receiver and one name.
-use Rattle.std.proofs.Common.{◌≡◌, ◌≢◌, ℕ, zero, suc, ◌+◌, ◌<◌, List, [], ◌∷◌, ◌++◌, Some, length, map, inl, inr, ◌⊎◌}
-use Rattle.std.proofs.Common.{Bool, refl, sym, ap, ◌∙◌, subst, arith, replicate}
-use Rattle.std.specs.Prelude.{slice_get, if◌then◌else◌, ◌==◌}
-use Rattle.std.proofs.lemmas.Bool.Decides.{nat_tests}
-use Rattle.ct_names.specs.Group.{IsMember, members, counting}
-use Rattle.ct_model.specs.Actor.{actor}
-use Rattle.ct_model.specs.AtValue.{Wire, Envelope, Mail}
-use Rattle.ct_model.specs.Knowledge.{KnowsMessages}
-use Rattle.ct_model.specs.Next.{Outcome, row, next}
-use Rattle.ct_model.specs.Rehearsal.{Rehearsal, state_of, empty, extended}
-use Rattle.ct_model.specs.Senders.{senders}
-use Rattle.ct_model.specs.Setting.{Setting}
-use Rattle.ct_model.specs.State.{State, member, submissions, at_serial, first_state}
-use Rattle.ct_model.specs.Wire.{envelopes}
-use Rattle.ct_model.specs.declared.mail.Mail.TheVariants.{Nobody, One, All}
-use Rattle.ct_model.specs.declared.step.Step.{Step}
-use Rattle.ct_model.proofs.Basics.Options.{some-same, some-none}
-use Rattle.ct_model.proofs.Consensus.Facts.{Holds, member_is}
-use Rattle.ct_model.proofs.Consensus.Sent.{Carries, carries-mail, get-wire}
+use Rattle.ct_merge.proofs.Common.{◌≡◌, ◌≢◌, ℕ, zero, suc, ◌+◌, ◌<◌, List, [], ◌∷◌, ◌++◌, Some, length, map, inl, inr, ◌⊎◌, Bool, refl, sym}
+use Rattle.ct_merge.proofs.Common.{ap, ◌∙◌, subst, arith, replicate, slice_get, if◌then◌else◌, ◌==◌, nat_tests, IsMember, counting, actor}
+use Rattle.ct_merge.proofs.Common.{Wire, Envelope, Mail, KnowsMessages, Outcome, row, next, Rehearsal, state_of, empty, extended, senders}
+use Rattle.ct_merge.proofs.Common.{Setting, State, member, submissions, at_serial, envelopes, Nobody, One, All, Step, some-same, some-none}
+use Rattle.ct_merge.proofs.Common.{Holds, Carries, carries-mail, get-wire, member-same, member-other, p_or_other, state-first, IsStep}
+use Rattle.ct_merge.proofs.Common.{next-is, history-run, by_shape, carried_of, IsPast, IsRun, IsNamed, Carried, FullName}
+use Rattle.ct_names.specs.Group.{members}
+use Rattle.ct_model.specs.State.{first_state}
+use Rattle.ct_model.proofs.Consensus.Facts.{member_is}
 use Rattle.ct_model.proofs.Record.Frame.{after-sent, after-submitted, submissions-append, submissions-next, submissions-none}
-use Rattle.ct_model.proofs.Record.Members.{member-same, member-other, p_or_other}
-use Rattle.ct_model.proofs.Record.Start.{state-first}
-use Rattle.ct_model.proofs.Relay.Messages.{IsStep, next-is}
-use Rattle.ct_model.proofs.Relay.Relaying.{history-run}
-use Rattle.ct_model.proofs.Steps.Shapes.{by_shape}
-use Rattle.ct_play.specs.Picking.{carried_of}
-use Rattle.ct_merge.specs.Past.{IsPast}
-use Rattle.ct_merge.specs.Runs.{IsRun, IsNamed}
-use Rattle.ct_grammar.specs.declared.carried.Carried.{Carried}
 use Rattle.ct_merge.proofs.Past.{SendsOnce, past_on, sends_once}
-use Rattle.ct_merge.specs.declared.full_name.FullName.{FullName}
 use Rattle.ct_merge.proofs.Telling.{IsReceipt, receipt_named}
 use Rattle.ct_merge.proofs.Running.{IsKnown, known, by_steps, state_next, senders_next}
 

@@ -1,35 +1,14 @@
 -- Logs that stand.
-use Rattle.std.proofs.Common.{◌≡◌, ℕ, zero, suc, ◌≤◌, ◌<◌, Bool, true, false, List, Option, Some, None, Err, inl, length}
-use Rattle.std.proofs.Common.{slice_get, ap, sym, subst, ◌∙◌, arith, refl}
-use Rattle.std.specs.Global.{Vec}
-use Rattle.ct_merge.specs.Logs.{log_of}
-use Rattle.ct_merge.specs.Merging.{Taken, count_of, received}
+use Rattle.ct_merge.proofs.Common.{◌≡◌, ℕ, zero, suc, ◌≤◌, ◌<◌, Bool, true, false, List, Option, Some, None, Err, inl, length, slice_get}
+use Rattle.ct_merge.proofs.Common.{ap, sym, subst, ◌∙◌, arith, refl, Vec, log_of, Taken, count_of, received, Rehearsal, state_of, IsCulprit}
+use Rattle.ct_merge.proofs.Common.{IsCulpritAt, IsLed, IsNext, IsStand, IsWait, Receives, IsUnsent, SomeWaits, WaitsAt, FullName, LogAct}
+use Rattle.ct_merge.proofs.Common.{Receive, LogLine, Culprit, Fault, Never, Ended, Circle, cause, Repeat, Refusal, Crashed, NotSent}
+use Rattle.ct_merge.proofs.Common.{Refused, Line, IsLawful, IsPresent, some-none, some-same, and_left, is_member, is_some, IsTakenFrom}
 use Rattle.ct_model.specs.Next.{wire_to}
-use Rattle.ct_model.specs.Rehearsal.{Rehearsal, state_of}
 use Rattle.ct_merge.specs.Sending.{may_come}
-use Rattle.ct_merge.specs.Stops.{IsCulprit, IsCulpritAt, IsLed, IsNext, IsStand, IsWait, Receives}
-use Rattle.ct_merge.specs.Waits.{IsUnsent, SomeWaits, WaitsAt}
-use Rattle.ct_merge.specs.declared.full_name.FullName.{FullName}
-use Rattle.ct_merge.specs.declared.log_act.LogAct.{LogAct}
-use Rattle.ct_merge.specs.declared.log_act.LogAct.TheVariants.{Receive}
-use Rattle.ct_merge.specs.declared.log_line.LogLine.{LogLine}
-use Rattle.ct_merge.specs.declared.verdict.Culprit.{Culprit}
-use Rattle.ct_merge.specs.declared.verdict.Why.TheVariants.{Fault, Never, Ended, Circle}
-use Rattle.ct_model.specs.Cause.{cause}
-use Rattle.ct_model.specs.declared.step.Step.TheVariants.{Repeat}
-use Rattle.ct_names.specs.declared.refusal.Refusal.{Refusal}
-use Rattle.ct_names.specs.declared.refusal.Refusal.TheVariants.{Crashed, NotSent}
-use Rattle.ct_play.specs.declared.line_fault.LineFault.TheVariants.{Refused}
 use Rattle.ct_world.specs.World.{WorldView, verdict}
-use Rattle.ct_merge.specs.declared.own_fault.OwnFault.TheVariants.{Line}
-use Rattle.ct_model.specs.Lawful.{IsLawful, IsPresent}
-use Rattle.ct_model.proofs.Basics.Options.{some-none, some-same}
-use Rattle.ct_model.proofs.Basics.Tests.{and_left}
 use Rattle.ct_model.proofs.Steps.LineSteps.{cause-repeat-unsent}
-use Rattle.ct_names.specs.Group.{is_member}
-use Rattle.std.specs.Prelude.{is_some}
 use Rattle.ct_merge.proofs.Moments.{get_below, get_there}
-use Rattle.ct_merge.specs.Merging.{IsTakenFrom}
 
 abbrev receives : (w : Rehearsal) (p : ℕ) (line : LogLine) (name : FullName) (b : Bool) → line.act ≡ Receive name → IsUnsent w p name →
     may_come w p name ≡ b → Receives w p line name.from b

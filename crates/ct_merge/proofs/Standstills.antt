@@ -1,25 +1,12 @@
 -- Lines at which logs stand that are taken as far as they go.
-use Rattle.std.proofs.Common.{◌≡◌, ℕ, ◌+◌, ◌≤◌, ◌||◌, ◌==◌, true, false, List, [], ◌∷◌, ◌++◌, length}
-use Rattle.std.proofs.Common.{inl, inr, refl, sym, ap, subst, ◌∙◌, arith}
-use Rattle.std.specs.Prelude.{All, ◌⊎◌}
-use Rattle.std.specs.Global.{Vec}
-use Rattle.std.proofs.lemmas.Bool.{eq-eqb}
-use Rattle.std.proofs.lemmas.Bool.Decides.{nat_tests}
-use Rattle.std.proofs.lemmas.List.Elements.{All-push}
+use Rattle.ct_merge.proofs.Common.{◌≡◌, ℕ, ◌+◌, ◌≤◌, ◌||◌, ◌==◌, true, false, List, [], ◌∷◌, ◌++◌, length, inl, inr, refl, sym, ap, subst}
+use Rattle.ct_merge.proofs.Common.{◌∙◌, arith, ◌⊎◌, Vec, eq-eqb, nat_tests, All-push, is_member, IsLawful, Setting, or_left, or_right}
+use Rattle.ct_merge.proofs.Common.{log_of, IsTakenFrom, Taken, count_of, IsCulprit, AllWait, is_wait, LogLine, Culprit}
+use Rattle.std.specs.Prelude.{All}
 use Rattle.std.proofs.lemmas.List.Folds.{list_any-append}
-use Rattle.ct_names.specs.Group.{is_member}
-use Rattle.ct_model.specs.Lawful.{IsLawful}
-use Rattle.ct_model.specs.Setting.{Setting}
-use Rattle.ct_model.proofs.Basics.Tests.{or_left, or_right}
-use Rattle.ct_merge.specs.Logs.{log_of}
-use Rattle.ct_merge.specs.Merging.{IsTakenFrom, Taken, count_of}
 use Rattle.ct_merge.specs.Standstills.{AllWaitBut, AreStopped, AreToldTo, IsRefusedLine, IsStoppedAt, IsTold, is_refused, is_waiting}
-use Rattle.ct_merge.specs.Stops.{IsCulprit}
-use Rattle.ct_merge.specs.Waits.{AllWait, is_wait}
-use Rattle.ct_merge.specs.declared.log_line.LogLine.{LogLine}
 use Rattle.ct_merge.specs.declared.stopped_line.StoppedLine.{StoppedLine}
 use Rattle.ct_merge.specs.declared.stopped_lines.StoppedLines.{StoppedLines}
-use Rattle.ct_merge.specs.declared.verdict.Culprit.{Culprit}
 use Rattle.ct_merge.proofs.Walking.{members_more}
 
 -- one more that is refused by itself

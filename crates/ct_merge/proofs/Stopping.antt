@@ -1,26 +1,13 @@
 -- Lines that are refused by themselves.
-use Rattle.std.proofs.Common.{◌≡◌, ℕ, Bool, true, false, List, Some, None, inl, inr, ap, sym, subst, ◌∙◌, refl, Option, Ok, Err}
-use Rattle.std.specs.Prelude.{◌⊎◌, slice_get}
-use Rattle.ct_names.specs.Group.{is_member}
-use Rattle.ct_model.specs.Cause.{cause}
-use Rattle.ct_model.specs.Lawful.{IsLawful, IsPresent}
-use Rattle.ct_model.specs.Rehearsal.{Rehearsal, extended, state_of}
-use Rattle.ct_model.specs.State.{is_crashed}
-use Rattle.ct_model.specs.declared.step.Step.{Step}
-use Rattle.ct_play.specs.Faults.{UnlessShort, is_short}
-use Rattle.ct_play.specs.declared.line_fault.LineFault.{LineFault}
-use Rattle.ct_play.specs.declared.line_fault.LineFault.TheVariants as fault
-use Rattle.ct_merge.specs.Merging.{IsLater, IsSerialOf, IsTakenTo, IsThereFor, LeavesAll, LeavesOthers, step_of}
-use Rattle.ct_merge.specs.Stops.{IsAsked, IsFaultAt, IsOfAbsent, IsOther, IsOutcome, IsRefusedBy, IsStuck, IsStuckIn, line_fault_of}
-use Rattle.ct_merge.specs.declared.own_fault.OwnFault.{OwnFault}
-use Rattle.ct_merge.specs.declared.own_fault.OwnFault.TheVariants.{Line, CameTo}
-use Rattle.ct_merge.specs.declared.log_line.LogLine.{LogLine}
+use Rattle.ct_merge.proofs.Common.{◌≡◌, ℕ, Bool, true, false, List, Some, None, inl, inr, ap, sym, subst, ◌∙◌, refl, Option, Ok, Err, ◌⊎◌}
+use Rattle.ct_merge.proofs.Common.{slice_get, is_member, cause, IsLawful, IsPresent, Rehearsal, extended, state_of, is_crashed, Step}
+use Rattle.ct_merge.proofs.Common.{UnlessShort, is_short, LineFault, IsLater, IsSerialOf, IsTakenTo, IsThereFor, LeavesAll, LeavesOthers}
+use Rattle.ct_merge.proofs.Common.{step_of, IsAsked, IsFaultAt, IsOfAbsent, IsOther, IsOutcome, IsRefusedBy, IsStuck, IsStuckIn}
+use Rattle.ct_merge.proofs.Common.{line_fault_of, OwnFault, Line, CameTo, LogLine, Refusal, Played, Refused}
 use Rattle.ct_merge.proofs.Local.{acts_of}
 use Rattle.ct_merge.proofs.Taking.{act_is, later_on, same_later, taken_still}
-use Rattle.ct_names.specs.declared.refusal.Refusal.{Refusal}
 use Rattle.ct_play.specs.Acting.{stepped, unless_refused}
-use Rattle.ct_play.specs.Played.{Played}
-use Rattle.ct_play.specs.declared.line_fault.LineFault.TheVariants.{Refused}
+use Rattle.ct_play.specs.declared.line_fault.LineFault.TheVariants as fault
 
 -- what is more of a fault, where nothing is short
 pub unless_more : (b : Bool) (x y : Type 0) → (x → y) → UnlessShort b x → UnlessShort b y

@@ -1,27 +1,14 @@
 -- Lines that are taken.
-use Rattle.std.proofs.Common.{◌≡◌, ◌≢◌, ℕ, ◌+◌, ◌<◌, ◌==◌, Bool, true, false, ◌&&◌, List, [], ◌∷◌, ◌++◌, Some, None, IfSome}
-use Rattle.std.proofs.Common.{ap, sym, ◌∙◌, refl, length, take, arith, subst, length-append}
-use Rattle.std.specs.Prelude.{option_map, slice_get}
-use Rattle.std.specs.List.{AllZip}
+use Rattle.ct_merge.proofs.Common.{◌≡◌, ◌≢◌, ℕ, ◌+◌, ◌<◌, ◌==◌, Bool, true, false, ◌&&◌, List, [], ◌∷◌, ◌++◌, Some, None, IfSome, ap, sym}
+use Rattle.ct_merge.proofs.Common.{◌∙◌, refl, length, take, arith, subst, length-append, option_map, slice_get, AllZip, take_more}
+use Rattle.ct_merge.proofs.Common.{get_or_from_slice_get, Rehearsal, extended, Step, Repeat, some-none, some-same, self_number, is_stated}
+use Rattle.ct_merge.proofs.Common.{stated_text, IsTold, act_of, is_own, own, IsLater, IsReady, IsSerialOf, IsTakenTo, LeavesAll}
+use Rattle.ct_merge.proofs.Common.{LeavesOthers, Takes, received, step_of, IsUnsent, IsWaiting, WaitsIn, FullName, LogAct, LogLine}
 use Rattle.std.proofs.lemmas.Bool.{ne_eqb}
-use Rattle.std.proofs.lemmas.List.{take_more}
-use Rattle.std.proofs.lemmas.Option.{get_or_from_slice_get}
 use Rattle.std.proofs.lemmas.Slice.Zip.{all_zipped_more}
-use Rattle.ct_model.specs.Rehearsal.{Rehearsal, extended}
-use Rattle.ct_model.specs.declared.step.Step.{Step}
-use Rattle.ct_model.specs.declared.step.Step.TheVariants.{Repeat}
-use Rattle.ct_model.proofs.Basics.Options.{some-none, some-same}
-use Rattle.ct_play.specs.Stating.{is_stated, stated_text}
-use Rattle.ct_merge.specs.Logs.{IsTold, act_of, is_own, own}
-use Rattle.ct_merge.specs.Merging.{IsLater, IsReady, IsSerialOf, IsTakenTo, LeavesAll, LeavesOthers, Takes, received, step_of}
-use Rattle.ct_merge.specs.Waits.{IsUnsent, IsWaiting, WaitsIn}
-use Rattle.ct_merge.specs.declared.full_name.FullName.{FullName}
-use Rattle.ct_merge.specs.declared.log_act.LogAct.{LogAct}
-use Rattle.ct_merge.specs.declared.log_act.LogAct.TheVariants as told
-use Rattle.ct_merge.specs.declared.log_line.LogLine.{LogLine}
 use Rattle.ct_merge.proofs.Moments.{get_below}
 use Rattle.ct_merge.proofs.Owning.{at, own_joins, own_stays}
-use Rattle.ct_model.proofs.Basics.Tests.{self_number}
+use Rattle.ct_merge.specs.declared.log_act.LogAct.TheVariants as told
 
 -- ---- one step
 

@@ -1,28 +1,13 @@
 -- What a told step is, and what it receives.
-use Rattle.std.proofs.Common.{◌≡◌, ℕ, Option, Some, None, refl, sym, ap, ap₂, ◌∙◌, subst}
-use Rattle.std.specs.Prelude.{option_map, ◌==◌}
-use Rattle.ct_model.specs.Actor.{actor}
-use Rattle.ct_model.specs.AtValue.{Envelope, Wire}
-use Rattle.ct_model.specs.Mapped.{without_value}
-use Rattle.ct_model.specs.Next.{addressed, receive, wire_to, next}
-use Rattle.ct_model.specs.Rehearsal.{Rehearsal, state_of}
-use Rattle.ct_model.specs.State.{State, member, at_serial}
-use Rattle.ct_model.specs.Senders.{senders}
-use Rattle.ct_model.specs.declared.step.Step.{Step}
+use Rattle.ct_merge.proofs.Common.{◌≡◌, ℕ, Option, Some, None, refl, sym, ap, ap₂, ◌∙◌, subst, option_map, ◌==◌, actor, Envelope, Wire}
+use Rattle.ct_merge.proofs.Common.{without_value, addressed, receive, next, Rehearsal, state_of, State, member, at_serial, senders, Step}
+use Rattle.ct_merge.proofs.Common.{some-same, some-none, made-map, made-then, when-is, same_number, next-is, letter, IsFrom, act_of}
+use Rattle.ct_merge.proofs.Common.{step_of, carried_of, named, IsNamed, FullName, LogAct, Receive}
+use Rattle.ct_model.specs.Next.{wire_to}
+use Rattle.ct_play.specs.Picking.{sender_of}
+use Rattle.ct_merge.specs.Names.{full_name}
 use Rattle.ct_model.specs.declared.step.Step.TheVariants as step
 use Rattle.ct_model.specs.declared.wire.Wire.TheVariants as wire
-use Rattle.ct_model.proofs.Basics.Options.{some-same, some-none, made-map, made-then, when-is}
-use Rattle.ct_model.proofs.Basics.Tests.{same_number}
-use Rattle.ct_model.proofs.Relay.Messages.{next-is}
-use Rattle.ct_merge.specs.Deeds.{letter, IsFrom}
-use Rattle.ct_merge.specs.Logs.{act_of}
-use Rattle.ct_merge.specs.Merging.{step_of}
-use Rattle.ct_play.specs.Picking.{carried_of, sender_of}
-use Rattle.ct_merge.specs.Names.{full_name, named}
-use Rattle.ct_merge.specs.Runs.{IsNamed}
-use Rattle.ct_merge.specs.declared.full_name.FullName.{FullName}
-use Rattle.ct_merge.specs.declared.log_act.LogAct.{LogAct}
-use Rattle.ct_merge.specs.declared.log_act.LogAct.TheVariants.{Receive}
 
 -- it is the step of p that is told so, and the envelope that it receives is so named
 pub record IsToldStep (w : Rehearsal) (p : ℕ) (step : Step) (act : LogAct) : Type 0 where

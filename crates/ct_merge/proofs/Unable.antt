@@ -1,50 +1,26 @@
 -- What a member sends no more it sends in no step, nor later.
-use Rattle.std.proofs.Common.{◌≡◌, ℕ, zero, suc, ◌<◌, ◌≤◌, ◌⊎◌, Bool, true, false, List, [], ◌∷◌, Some, inl, inr, refl, sym, ap, subst}
-use Rattle.std.proofs.Common.{arith, is_some, filter_map, ◌+◌, length, ◌∙◌}
-use Rattle.std.specs.Prelude.{if◌then◌else◌, slice_get}
-use Rattle.std.proofs.lemmas.Bool.Decides.{nat_tests}
-use Rattle.ct_names.specs.Group.{coordinator, IsMember}
-use Rattle.ct_names.specs.Membership.{IsIn}
-use Rattle.ct_names.specs.Value.{Value}
-use Rattle.ct_names.proofs.Lists
-use Rattle.ct_model.specs.AtValue.{Envelope, Mail, Standing, Turn, Wire}
-use Rattle.ct_model.specs.Next.{Outcome, is_relayed, own_ballots, row, turn_at, turned, next}
-use Rattle.ct_model.specs.Phases.{is_gather}
-use Rattle.ct_model.specs.Received.{ballots, decided, head, proposal, proposal_of}
-use Rattle.ct_model.specs.Setting.{Setting}
-use Rattle.ct_model.specs.State.{Member, State, member, submissions}
-use Rattle.ct_model.specs.Wire.{envelopes}
-use Rattle.ct_model.specs.declared.mail.Mail.TheVariants.{All, Nobody, One}
-use Rattle.ct_model.specs.declared.moves.Move.{Move}
-use Rattle.ct_model.specs.declared.moves.Move.TheVariants.{Adopt, Choose, Conclude, Enter, Suspect}
-use Rattle.ct_model.specs.declared.step.Step.{Step}
-use Rattle.ct_model.specs.declared.wire.Wire.TheVariants as wire
-use Rattle.ct_model.proofs.Basics.Options.{some-none, some-same}
-use Rattle.ct_model.proofs.Consensus.Facts.{Holds, member_is}
-use Rattle.ct_model.proofs.Consensus.Readings
-use Rattle.ct_model.proofs.Consensus.Sent.{Carries, carries-mail, get-wire}
-use Rattle.ct_model.proofs.Steps.Rows.{adopt-is, choose-is, conclude-is, enter-is, suspect-is}
-use Rattle.ct_model.proofs.Steps.Shapes.{by_shape}
-use Rattle.ct_play.specs.Picking.{carried_of}
-use Rattle.ct_grammar.specs.declared.carried.Carried.{Carried}
-use Rattle.ct_grammar.specs.declared.carried.Carried.TheVariants.{Data, Est, Prop, Ack, Nack, Dec}
-use Rattle.ct_merge.specs.Deeds.{letter, Sends}
-use Rattle.ct_merge.specs.Past.{IsPast}
-use Rattle.ct_merge.specs.Unable.{GoesElsewhere, IsSkipped, IsWithoutNack, SendsNoMore, SkipsRound}
-use Rattle.ct_merge.specs.Unable.SendsNoMore.{elsewhere, past, proposed, skipped}
+use Rattle.ct_merge.proofs.Common.{◌≡◌, ℕ, zero, suc, ◌<◌, ◌≤◌, ◌⊎◌, Bool, true, false, List, [], ◌∷◌, Some, inl, inr, refl, sym, ap, subst}
+use Rattle.ct_merge.proofs.Common.{arith, is_some, ◌+◌, length, ◌∙◌, if◌then◌else◌, slice_get, nat_tests, coordinator, IsMember, IsIn}
+use Rattle.ct_merge.proofs.Common.{Value, Envelope, Mail, Standing, Turn, Wire, Outcome, own_ballots, row, turn_at, turned, next, is_gather}
+use Rattle.ct_merge.proofs.Common.{decided, Setting, Member, State, member, submissions, envelopes, All, Nobody, One, Move, Adopt, Choose}
+use Rattle.ct_merge.proofs.Common.{Conclude, Enter, Suspect, Step, some-none, some-same, Holds, Carries, carries-mail, get-wire, adopt-is}
+use Rattle.ct_merge.proofs.Common.{choose-is, conclude-is, enter-is, suspect-is, by_shape, carried_of, Carried, Data, Est, Prop, Ack, Nack}
+use Rattle.ct_merge.proofs.Common.{Dec, letter, Sends, IsPast, SendsNoMore, SkipsRound, elsewhere, past, proposed, skipped, actor}
+use Rattle.ct_merge.proofs.Common.{KnowsMessages, Rehearsal, extended, state_of, p_or_other, IsStep, next-is, Moment, own, IsRun}
+use Rattle.std.proofs.Common.{filter_map}
+use Rattle.ct_model.specs.Next.{is_relayed}
+use Rattle.ct_model.specs.Received.{ballots, head, proposal, proposal_of}
+use Rattle.ct_model.proofs.Consensus.Facts.{member_is}
+use Rattle.ct_merge.specs.Unable.{GoesElsewhere, IsSkipped, IsWithoutNack}
 use Rattle.ct_merge.proofs.Past.{IsOn, decision_on, past_on, relayed_decision, sends_once}
-use Rattle.ct_model.specs.Actor.{actor}
-use Rattle.ct_model.specs.Knowledge.{KnowsMessages}
-use Rattle.ct_model.specs.Rehearsal.{Rehearsal, extended, state_of}
-use Rattle.ct_model.proofs.Record.Members.{p_or_other}
-use Rattle.ct_model.proofs.Relay.Messages.{IsStep, next-is}
-use Rattle.ct_merge.specs.Logs.{Moment, own}
-use Rattle.ct_merge.specs.Runs.{IsRun}
 use Rattle.ct_merge.proofs.Local.{outcome_is}
 use Rattle.ct_merge.proofs.Moments.{IsPlaced, get_there, no_own, own_cases, placed}
 use Rattle.ct_merge.proofs.Running.{by_steps, known, state_next}
 use Rattle.ct_merge.proofs.Sameness.{below_or_not}
 use Rattle.ct_merge.proofs.SentOnce.{count_mine, count_theirs, member_mine, member_theirs, past_not, stepping}
+use Rattle.ct_names.proofs.Lists
+use Rattle.ct_model.specs.declared.wire.Wire.TheVariants as wire
+use Rattle.ct_model.proofs.Consensus.Readings
 
 -- ---- to whom a mail goes
 

@@ -1,17 +1,8 @@
 -- What logs come to that stand at a line.
-use Rattle.std.proofs.Common.{◌≡◌, ℕ, Bool, true, false, List, sym, subst, refl}
-use Rattle.std.specs.Prelude.{if◌then◌else◌}
-use Rattle.std.specs.Global.{Vec}
-use Rattle.ct_model.specs.Lawful.{IsLawful}
-use Rattle.ct_model.specs.Rehearsal.{Rehearsal}
-use Rattle.ct_model.specs.Setting.{Setting}
-use Rattle.ct_merge.specs.Merging.{IsTakenFrom, Taken}
-use Rattle.ct_merge.specs.Stops.{IsCulprit, IsCulpritAt, halted_at}
+use Rattle.ct_merge.proofs.Common.{◌≡◌, ℕ, Bool, true, false, List, sym, subst, refl, if◌then◌else◌, Vec, IsLawful, Rehearsal, Setting}
+use Rattle.ct_merge.proofs.Common.{IsTakenFrom, Taken, IsCulprit, IsCulpritAt, halted_at, AllWait, HasNoMerge, NeverMerges, is_ended}
+use Rattle.ct_merge.proofs.Common.{is_limit, is_wait, LogLine, OwnFault, Culprit}
 use Rattle.ct_merge.specs.Verdicts.{IfAccepted, IfRefused, IfStopped, verdict_at}
-use Rattle.ct_merge.specs.Waits.{AllWait, HasNoMerge, NeverMerges, is_ended, is_limit, is_wait}
-use Rattle.ct_merge.specs.declared.log_line.LogLine.{LogLine}
-use Rattle.ct_merge.specs.declared.own_fault.OwnFault.{OwnFault}
-use Rattle.ct_merge.specs.declared.verdict.Culprit.{Culprit}
 use Rattle.ct_merge.specs.declared.verdict.Verdict.{Verdict}
 use Rattle.ct_merge.specs.declared.verdict.Verdict.TheVariants.{Refused, Cut, Limited}
 use Rattle.ct_merge.proofs.Circles.{refused_none}

@@ -1,30 +1,17 @@
 -- What logs expect, in their order, tested along a run.
-use Rattle.std.proofs.Common.{◌≡◌, ℕ, zero, suc, ◌+◌, ◌<◌, ◌≤◌, List, [], ◌∷◌, ◌++◌, Some, length, ap, sym, refl, ◌∙◌, inl, inr, arith, ◌≢◌}
-use Rattle.std.proofs.Common.{◌==◌, ◌&&◌, Bool, true, false, not, Option, None, subst, append_assoc, append-nil, length-append, take, drop}
-use Rattle.std.proofs.Common.{leb-true, nat_le}
-use Rattle.std.specs.Prelude.{slice_get, is_some, option_map, IfSome}
-use Rattle.ct_model.proofs.Basics.Options.{some-none, some-same}
-use Rattle.ct_merge.specs.Expected.{AllHold, AreOrdered, Expecting, Holds, IsMet, IsMetIn, IsUnmet, behind, expected_of}
-use Rattle.ct_merge.specs.Expected.{or_whole}
+use Rattle.ct_merge.proofs.Common.{◌≡◌, ℕ, zero, suc, ◌+◌, ◌<◌, ◌≤◌, List, [], ◌∷◌, ◌++◌, Some, length, ap, sym, refl, ◌∙◌, inl, inr, arith}
+use Rattle.ct_merge.proofs.Common.{◌≢◌, ◌==◌, ◌&&◌, Bool, true, false, not, Option, None, subst, append_assoc, append-nil, length-append}
+use Rattle.ct_merge.proofs.Common.{take, drop, leb-true, nat_le, slice_get, is_some, option_map, IfSome, some-none, some-same, and_parts}
+use Rattle.ct_merge.proofs.Common.{cases_eq, slice_get-get_or, slice_get_past, nat_tests, is_member, actor, Rehearsal, extended, Step}
+use Rattle.ct_merge.proofs.Common.{self_number, Played, with_step, whole, Moment, is_own, is_repeat, own, count_of}
+use Rattle.ct_merge.specs.Expected.{AllHold, AreOrdered, Expecting, Holds, IsMet, IsMetIn, IsUnmet, behind, expected_of, or_whole}
 use Rattle.ct_merge.specs.declared.expectation.Expectation.{Expectation}
 use Rattle.ct_merge.proofs.Moments.{get_below, get_last, get_there, no_own, own_front}
-use Rattle.std.proofs.lemmas.Bool.{and_parts, cases_eq}
-use Rattle.std.proofs.lemmas.Option.{slice_get-get_or, slice_get_past}
-use Rattle.std.proofs.lemmas.Bool.Decides.{nat_tests}
-use Rattle.ct_names.specs.Group.{is_member}
-use Rattle.ct_model.specs.Actor.{actor}
-use Rattle.ct_model.specs.Rehearsal.{Rehearsal, extended}
-use Rattle.ct_model.specs.declared.step.Step.{Step}
-use Rattle.ct_model.proofs.Basics.Tests.{self_number}
-use Rattle.ct_play.specs.Played.{Played, with_step}
-use Rattle.ct_grammar.specs.Sides.{whole}
-use Rattle.ct_merge.specs.Logs.{Moment, is_own, is_repeat, own}
-use Rattle.ct_merge.specs.Merging.{count_of}
 use Rattle.ct_merge.specs.Testing.{AreFrom, AreMet, AreTested, Fails, FailsBefore, GoesOnTo, IsFailing, IsTested, StaysTested, Walked}
 use Rattle.ct_merge.specs.declared.testing.Unmet.{Unmet}
+use Rattle.ct_names.proofs.Groups.{member_from_one}
 use Rattle.ct_merge.proofs.Owning.{at, longer, own_joins, own_stays}
 use Rattle.ct_merge.proofs.Sameness.{below_or_not}
-use Rattle.ct_names.proofs.Groups.{member_from_one}
 
 -- ---- lists
 
