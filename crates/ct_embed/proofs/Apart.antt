@@ -3,26 +3,15 @@
 --     tokens, outlived  at each call: the tokens of the two parameters' lifetimes, and that these are in the parameters' own
 --     pair_out          a pair of a pointer and an allocator by value: the allocator is left, and the machine value is known
 --     apart_in          what lies there, the right to free it and the allocator make the parts
-use mathlib.Core.Path.{◌≡◌, refl, ◌∙◌}
-use mathlib.Core.List.{List, [], ◌∷◌, ◌++◌}
+use Rattle.ct_embed.proofs.Common.{refl, List, [], ◌∷◌, ◌++◌, Ura, bare, Val, vstruct, of_list, id⊢, Lft, Share, ftrue, flft, fact, Logic}
+use Rattle.ct_embed.proofs.Common.{Ptr, RawPtr, block_ptr, ptr_val, Tuple, token, Fits, handle_tells, Bx, X, R, P, τ, word, handle, box_in}
+use mathlib.Core.Path.{◌≡◌, ◌∙◌}
 use Prim.Native.Nat.{ℕ}
-use seplogic.Ra.Ura.{Ura}
-use mir.Raw.{raw as bare}
-use mir.Val.{Val, vstruct, of_list}
 use base.Fraction.{full_share}
-use base.Logic.{id⊢}
-use base.Fml.{Lft, Share, ftrue, flft}
 use contract.BorrowLft.{◌⊑◌}
-use contract.Monad.{fact}
-use types.Logic.{Logic}
 use types.Kit.{Item, Goal, Seq, Step, step, ‵, raw, ◌⊛◌, ◌$◌, move, drop, use1, fsplit, fpick, feq_l}
 use denote.RattleType.{RattleType}
 use denote.Memory.{part_at}
-use denote.RawPtr.{Ptr, RawPtr, block_ptr, ptr_val}
-use denote.Struct.Tuple.{Tuple}
-use Rattle.core.proofs.alloc.Calls.{token, Fits, handle_tells}
-use Rattle.std_alloc.proofs.BoxSteps.Form.{Bx, X, R, P, τ, word, handle}
-use Rattle.std_alloc.proofs.BoxSteps.Steps.{box_in}
 use Rattle.ct_embed.specs.contracts.parts.Parts as parts
 
 abbrev pub tokens : {M : Type 1} (𝓤 : Ura M) → Lft → Lft → Share → Share → Item 𝓤

@@ -1,33 +1,23 @@
 -- A world or a session in a box at the program's heap, as the proofs of handles have it. Assumes `Logic`.
 --     world, session     each with `Global`; a handle that holds, its parts and its box own the same of it
 --     empty_in           a null pointer and the heap make a handle that holds nothing; what it doesn't hold is not owned
-use mathlib.Core.Path.{refl}
-use mathlib.Core.Bool.{false}
-use mathlib.Core.List.{List, [], ◌∷◌}
-use lib.Dec.{T, lit<}
-use seplogic.Ra.Ura.{Ura}
+use Rattle.ct_embed.proofs.Common.{refl, false, List, [], ◌∷◌, T, lit<, Ura, Logic, RawPtr, null_ptr, ptr_val, nothing, Val, vstruct, vcons}
+use Rattle.ct_embed.proofs.Common.{vnil, has_ty, WT, Al, α, Fits, Bx, box_ty, hush}
 use mir.Syntax.{impl, tnil, dnil}
-use types.Logic.{Logic}
 use types.Kit.{Item, Goal, Step, step, ‵, ◌$◌, move, fjoin, fpack, feq_i}
 use denote.RattleType.{RattleType, Valss}
-use denote.RawPtr.{RawPtr, null_ptr, ptr_val}
-use denote.Steps.{nothing}
 use denote.Struct.Struct.{within}
 use denote.Struct.Owning.{shape}
-use mir.Val.{Val, vstruct, vcons, vnil, has_ty, WT}
+use Rattle.std.specs.contracts.impls.GlobalAllocator.TheImpl.{ghosts}
+use Rattle.std_alloc.proofs.ResultValues.{and_tt}
 use Rattle.std.specs.contracts.alloc.Global as heap
 use Rattle.std.proofs.alloc.Global.TheLaws as heap_laws
-use Rattle.std.specs.contracts.impls.GlobalAllocator.TheImpl.{ghosts}
-use Rattle.core.proofs.alloc.Calls.{Al, α, Fits}
-use Rattle.std_alloc.proofs.ResultValues.{and_tt}
-use Rattle.std_alloc.proofs.BoxSteps.Form.{Bx, box_ty}
 use Rattle.ct_embed.specs.contracts.own_session.OwnSession as sessions
 use Rattle.ct_embed.proofs.own_session.OwnSession.TheLaws as session_laws
 use Rattle.ct_embed.specs.contracts.own_world.OwnWorld as worlds
 use Rattle.ct_embed.proofs.own_world.OwnWorld.TheLaws as world_laws
 use Rattle.ct_embed.specs.contracts.parts.Parts as parts
 use Rattle.ct_embed.specs.contracts.session_handle.SessionHandle as handle
-use Rattle.ct_embed.specs.Telling.{hush}
 
 abbrev pub the_heap : Al
 the_heap = record { row = heap.the_row; laws = heap_laws.the_row_laws; g = ghosts; d = impl [] tnil dnil; drops = impl [] tnil dnil }

@@ -1,17 +1,15 @@
 -- The replay of a record each of whose steps was allowed where it stands is refused for no cause.
-use Rattle.std.proofs.Common.{◌≡◌, ◌⊎◌, ℕ, zero, suc, List, length, get_or, Some, None, inl, inr}
+use Rattle.ct_embed.proofs.Common.{◌≡◌, ℕ, length, get_or, inl, inr, Refusal, Rehearsal, AllowsFirst, IsFaultOf, first_steps}
+use Rattle.std.proofs.Common.{◌⊎◌, zero, suc, List, Some, None}
 use Rattle.std.specs.Prelude.{slice_get}
 use Rattle.core.proofs.iter.runs.Lists.{nth_read}
 use Rattle.ct_names.specs.declared.command.Command.TheVariants.{Set}
-use Rattle.ct_names.specs.declared.refusal.Refusal.{Refusal}
 use Rattle.ct_names.specs.declared.refusal.Refusal.TheVariants.{OutOfMemory, Board}
 use Rattle.ct_model.specs.declared.step.Step.{Step}
 use Rattle.ct_model.specs.declared.step.Step.TheVariants.{Submit}
 use Rattle.ct_model.specs.Cause.{cause}
-use Rattle.ct_model.specs.Rehearsal.{Rehearsal}
 use Rattle.ct_model.specs.Setting.{Setting}
 use Rattle.ct_world.specs.Posting.{IsRefusal}
-use Rattle.ct_world.specs.Replay.{AllowsFirst, IsFaultOf, first_steps}
 
 -- a step without a cause is refused for want of memory, or by the board
 spared : (w : Rehearsal) (step : Step) (refusal : Refusal) → cause w step ≡ None → IsRefusal w step refusal →

@@ -1,5 +1,6 @@
 pub mod Apart
 pub mod AtHeap
+pub mod Common
 pub mod Copying
 pub mod Hearing
 pub mod Rooms

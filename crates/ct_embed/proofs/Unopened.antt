@@ -1,13 +1,11 @@
 -- Why no world is opened of a record: what reading and replaying tell.
-use Rattle.std.proofs.Common.{◌≡◌, ℕ, List, inl, inr, refl}
+use Rattle.ct_embed.proofs.Common.{◌≡◌, ℕ, inl, inr, Refusal, Rehearsal, IsFaultOf}
+use Rattle.std.proofs.Common.{List, refl}
 use Rattle.std.specs.Prelude.{Result, Ok, Err}
-use Rattle.ct_names.specs.declared.refusal.Refusal.{Refusal}
 use Rattle.ct_model.specs.declared.step.Step.{Step}
-use Rattle.ct_model.specs.Rehearsal.{Rehearsal}
 use Rattle.ct_records.specs.Gives.{Fails}
 use Rattle.ct_records.specs.declared.read_fault.ReadFault.{ReadFault}
 use Rattle.ct_records.specs.declared.read_fault.ReadFault.TheVariants.{TooLong, NotJson, Shape, Version, OutOfMemory}
-use Rattle.ct_world.specs.Replay.{IsFaultOf}
 use Rattle.ct_embed.specs.Records.{IsUnopened, not_opened, unread}
 use Rattle.ct_embed.specs.RefusalNumbers.{refusal_number}
 

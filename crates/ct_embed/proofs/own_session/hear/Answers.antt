@@ -1,8 +1,7 @@
-use Rattle.std.proofs.Common.{◌∙◌}
-use Rattle.std.specs.Prelude.{string_bytes}
+use Rattle.ct_embed.proofs.Common.{◌∙◌, string_bytes}
+use Rattle.ct_judge.proofs.Hearing.{after_more}
 use Rattle.ct_embed.proofs.Hearing.{says_as}
 use Rattle.ct_embed.proofs.own_session.hear.Goals as goal
-use Rattle.ct_judge.proofs.Hearing.{after_more}
 
 pub loop-byte-preserved : goal.loop-byte-preserved
 loop-byte-preserved c =

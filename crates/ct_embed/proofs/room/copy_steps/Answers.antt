@@ -1,5 +1,4 @@
-use Rattle.std.proofs.Common.{arith}
-use Rattle.ct_embed.specs.StepCodes.{step_code}
+use Rattle.ct_embed.proofs.Common.{arith, step_code}
 use Rattle.ct_embed.proofs.Rooms.{shown_more}
 use Rattle.ct_embed.proofs.room.copy_steps.Goals as goal
 

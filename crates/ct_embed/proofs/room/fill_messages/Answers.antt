@@ -1,5 +1,4 @@
-use Rattle.std.proofs.Common.{◌∙◌, ap, arith}
-use Rattle.ct_embed.specs.MessageCodes.{message_code}
+use Rattle.ct_embed.proofs.Common.{◌∙◌, ap, arith, message_code}
 use Rattle.ct_embed.proofs.Rooms.{shown_more}
 use Rattle.ct_embed.proofs.room.fill_messages.Goals as goal
 

@@ -1,47 +1,24 @@
 -- A box is taken apart: the parts own the allocator, what lies at the pointer, and the right to free it.
-use mathlib.Core.Path.{◌≡◌, refl, sym, subst, ap, ◌∙◌}
-use mathlib.Core.List.{List, [], ◌∷◌, ◌++◌}
-use seplogic.Ra.Ura.{Ura}
+use Rattle.ct_embed.proofs.Common.{refl, sym, subst, List, [], ◌∷◌, ◌++◌, Ura, inst_fn, bare, Val, vstruct, of_list, SProp, ent, id⊢, never}
+use Rattle.ct_embed.proofs.Common.{fst∗, ftrue, fsep, Memory, Routine, WpFn, Tables, Logic, Fun, fact, tables, fm_of, WpFn-mono, whole, sub}
+use Rattle.ct_embed.proofs.Common.{agg, stop, fld, no_more, and_then, of_opd, returns, enter, alloc_all, pass_all, free_all, look_at, get}
+use Rattle.ct_embed.proofs.Common.{get_in, sets, lands_as, no, Ptr, RawPtr, block_ptr, null_ptr, ptr_val, in_a_block, plain, heard, nothing}
+use Rattle.ct_embed.proofs.Common.{only, Tuple, Ended, Clauses, triple_of, Triple, Contract, entered, says, Stays, stay_dropped, walk_of}
+use Rattle.ct_embed.proofs.Common.{ends_at, walk_Meets, token, Goes-blank, box_owns, Bx, τ, R, P, B, word, box_typed, box_out, box_in}
+use mathlib.Core.Path.{◌≡◌, ap, ◌∙◌}
 use mir.Syntax.{Fn, Args, Dict, a_type, dcons, dnil}
-use mir.MapTy.{inst_fn}
-use mir.Raw.{raw as bare}
-use mir.Val.{Val, vstruct, of_list}
-use base.Logic.{SProp, ent, id⊢, never, fst∗}
-use base.Fml.{ftrue, fsep}
-use prog.Memory.{Memory}
-use prog.Routine.{Routine}
-use prog.Wp.{WpFn, Tables}
-use types.Logic.{Logic, sem}
-use contract.Monad.{Fun, fact}
-use contract.Running.{tables, tables_of}
-use sound.WpLaws.{fm_of, WpFn-mono}
-use types.Kit.{Item, ⋆, ‵, raw, ◌⊛◌, some, later, ◌$◌, ◌∵◌, !, qed, by}
-use types.Kit.{move, drop, use1, join, split, split3, pick, rewrite, fsplit, fjoin, suffices, await, done}
-use types.Part.{whole, sub, agg}
-use types.Run.{stop, fld, no_more, and_then, of_opd, returns, enter}
-use types.ByLocal.{alloc_all, pass_all, free_all, look_at, get, get_in, sets, lands_as}
-use denote.Exit.{no}
+use types.Logic.{sem}
+use contract.Running.{tables_of}
+use types.Kit.{Item, ⋆, ‵, raw, ◌⊛◌, some, later, ◌$◌, ◌∵◌, !, qed, by, move, drop, use1, join, split, split3, pick, rewrite, fsplit, fjoin}
+use types.Kit.{suffices, await, done}
 use denote.Param.{bounded}
-use denote.RawPtr.{Ptr, RawPtr, block_ptr, null_ptr, ptr_val, in_a_block}
-use denote.Signature.{plain}
-use denote.Steps.{heard, nothing, only}
-use denote.Struct.Tuple.{Tuple}
 use denote.Triple.Call.{calls_at}
-use denote.Triple.Clauses.{Ended, Clauses}
-use denote.Triple.Spec.{triple_of}
-use denote.Triple.Statement.{Triple, Contract}
-use denote.Triple.Table.{entered}
-use denote.Triple.Walked.{says, Stays, stay_dropped, walk_of, ends_at, walk_Meets}
-use Rattle.core.proofs.alloc.Calls.{token, Goes-blank}
-use Rattle.std_alloc.specs.Box.Ownership.{box_owns}
-use Rattle.std_alloc.proofs.BoxSteps.Form.{Bx, τ, R, P, B, word, box_typed}
-use Rattle.std_alloc.proofs.BoxSteps.Steps.{box_out, box_in}
-use Rattle.std_alloc.specs.contracts.boxed.Box.into_raw_with_allocator as callee
-use Rattle.std_alloc.proofs.boxed.Box.into_raw_with_allocator.Symbol as symbol
 use Rattle.std_alloc.proofs.boxed.Box.into_raw_with_allocator.Met.{met}
 use Rattle.ct_embed.proofs.Apart.{tokens, outlived, pair_out, apart_in}
-use Rattle.ct_embed.specs.contracts.parts.Parts.of as f
 use Rattle.ct_embed.proofs.parts.Parts.of.Statement.{statement}
+use Rattle.std_alloc.specs.contracts.boxed.Box.into_raw_with_allocator as callee
+use Rattle.std_alloc.proofs.boxed.Box.into_raw_with_allocator.Symbol as symbol
+use Rattle.ct_embed.specs.contracts.parts.Parts.of as f
 use Rattle.ct_embed.proofs.parts.Parts.of.Code as code
 
 module _ (E : Bx) (dx : Dict) where

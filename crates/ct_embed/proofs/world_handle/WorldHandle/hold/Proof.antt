@@ -1,28 +1,13 @@
 -- A handle takes the parts over: it owns what they own.
-use mathlib.Core.Path.{refl, sym, subst}
-use mathlib.Core.Bool.{true}
-use mathlib.Core.List.{List, [], ◌∷◌, ◌++◌}
-use mir.Val.{Val}
-use base.Logic.{SProp, ent, id⊢}
-use base.Fml.{ftrue, fsep}
-use prog.Wp.{WpFn}
-use contract.Running.{tables}
+use Rattle.ct_embed.proofs.Common.{refl, sym, subst, true, List, [], ◌∷◌, ◌++◌, Val, SProp, ent, id⊢, ftrue, fsep, WpFn, tables, whole, sub}
+use Rattle.ct_embed.proofs.Common.{agg, stop, fld, no_more, and_then, of_opd, returns, enter, alloc_all, pass_all, free_all, look_at, get}
+use Rattle.ct_embed.proofs.Common.{get_in, sets, yes, plain, nothing, says, Stays, stay_dropped, walk_of, ends_at, Goes-blank, proved_at, D}
+use Rattle.ct_embed.proofs.Common.{B, word, box_typed, box_out, box_in}
 use types.Kit.{Item, ⋆, ‵, raw, ◌⊛◌, ◌$◌, ◌∵◌, !, qed, by, move, keep, use1, join, split, fsplit, fjoin, suffices, done}
-use types.Part.{whole, sub, agg}
-use types.Run.{stop, fld, no_more, and_then, of_opd, returns, enter}
-use types.ByLocal.{alloc_all, pass_all, free_all, look_at, get, get_in, sets}
-use denote.Exit.{yes}
-use denote.Signature.{plain}
-use denote.Steps.{nothing}
-use denote.Triple.Walked.{says, Stays, stay_dropped, walk_of, ends_at}
-use Rattle.core.proofs.alloc.Calls.{Goes-blank}
-use Rattle.std.proofs.raw_atomic.Walks.{proved_at}
-use Rattle.std_alloc.proofs.BoxSteps.Form.{D, B, word, box_typed}
-use Rattle.std_alloc.proofs.BoxSteps.Steps.{box_out, box_in}
 use Rattle.ct_embed.proofs.AtHeap.{world, parted}
+use Rattle.ct_embed.proofs.world_handle.WorldHandle.hold.Statement.{statement}
 use Rattle.ct_embed.specs.contracts.world_handle.WorldHandle as handles
 use Rattle.ct_embed.specs.contracts.world_handle.WorldHandle.hold as f
-use Rattle.ct_embed.proofs.world_handle.WorldHandle.hold.Statement.{statement}
 use Rattle.ct_embed.proofs.world_handle.WorldHandle.hold.Code as code
 
 pub hold_spec : {M : Type 1} → statement M

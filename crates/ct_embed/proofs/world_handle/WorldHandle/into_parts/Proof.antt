@@ -1,29 +1,14 @@
 -- A handle that holds is given up: the parts own what it owns.
-use mathlib.Core.Path.{◌≡◌, refl, sym, subst}
-use mathlib.Core.Bool.{Bool, true}
-use mathlib.Core.List.{List, [], ◌∷◌, ◌++◌}
-use mir.Val.{Val}
-use base.Logic.{SProp, ent, id⊢}
-use base.Fml.{ftrue, fsep}
-use prog.Wp.{WpFn}
-use contract.Monad.{fact}
-use contract.Running.{tables}
+use Rattle.ct_embed.proofs.Common.{refl, sym, subst, Bool, true, List, [], ◌∷◌, ◌++◌, Val, SProp, ent, id⊢, ftrue, fsep, WpFn, fact, tables}
+use Rattle.ct_embed.proofs.Common.{whole, sub, agg, stop, fld, no_more, and_then, of_opd, returns, enter, alloc_all, pass_all, free_all}
+use Rattle.ct_embed.proofs.Common.{look_at, get, get_in, sets, yes, plain, heard, nothing, says, Stays, stay_dropped, walk_of, ends_at}
+use Rattle.ct_embed.proofs.Common.{Goes-blank, proved_at, D, B, word, box_typed, box_out, box_in}
+use mathlib.Core.Path.{◌≡◌}
 use types.Kit.{Item, ⋆, ‵, raw, ◌⊛◌, ◌$◌, ◌∵◌, !, qed, by, move, keep, use1, join, split, rewrite, fsplit, fjoin, suffices, done}
-use types.Part.{whole, sub, agg}
-use types.Run.{stop, fld, no_more, and_then, of_opd, returns, enter}
-use types.ByLocal.{alloc_all, pass_all, free_all, look_at, get, get_in, sets}
-use denote.Exit.{yes}
-use denote.Signature.{plain}
-use denote.Steps.{heard, nothing}
-use denote.Triple.Walked.{says, Stays, stay_dropped, walk_of, ends_at}
-use Rattle.core.proofs.alloc.Calls.{Goes-blank}
-use Rattle.std.proofs.raw_atomic.Walks.{proved_at}
-use Rattle.std_alloc.proofs.BoxSteps.Form.{D, B, word, box_typed}
-use Rattle.std_alloc.proofs.BoxSteps.Steps.{box_out, box_in}
 use Rattle.ct_embed.proofs.AtHeap.{world, parted}
+use Rattle.ct_embed.proofs.world_handle.WorldHandle.into_parts.Statement.{statement}
 use Rattle.ct_embed.specs.contracts.world_handle.WorldHandle as handles
 use Rattle.ct_embed.specs.contracts.world_handle.WorldHandle.into_parts as f
-use Rattle.ct_embed.proofs.world_handle.WorldHandle.into_parts.Statement.{statement}
 use Rattle.ct_embed.proofs.world_handle.WorldHandle.into_parts.Code as code
 
 pub into_parts_spec : {M : Type 1} → statement M

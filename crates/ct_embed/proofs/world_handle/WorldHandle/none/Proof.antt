@@ -1,29 +1,14 @@
 -- A handle that holds nothing owns nothing.
-use mathlib.Core.Path.{refl, sym, subst}
-use mathlib.Core.Bool.{false}
-use mathlib.Core.List.{List, [], ◌∷◌, ◌++◌}
-use mir.Val.{Val}
-use base.Logic.{SProp, ent, id⊢}
-use base.Fml.{ftrue, fsep}
-use prog.Wp.{WpFn}
-use contract.Running.{tables}
+use Rattle.ct_embed.proofs.Common.{refl, sym, subst, false, List, [], ◌∷◌, ◌++◌, Val, SProp, ent, id⊢, ftrue, fsep, WpFn, tables, agg}
+use Rattle.ct_embed.proofs.Common.{no_more, and_then, lit, returns, enter, alloc_all, pass_all, free_all, look_at, get, sets, yes, null_ptr}
+use Rattle.ct_embed.proofs.Common.{plain, nothing, says, Stays, stay_dropped, walk_of, ends_at, Goes-blank, handle_tells, proved_at}
+use Rattle.ct_embed.proofs.Common.{Rehearsal, empty}
 use types.Kit.{Item, ⋆, ‵, raw, ◌⊛◌, ◌$◌, ◌∵◌, !, qed, by, move, keep, use1, join, split, fsplit, fjoin, suffices, done}
-use types.Part.{agg}
-use types.Run.{no_more, and_then, lit, returns, enter}
-use types.ByLocal.{alloc_all, pass_all, free_all, look_at, get, sets}
-use denote.Exit.{yes}
-use denote.RawPtr.{null_ptr}
-use denote.Signature.{plain}
-use denote.Steps.{nothing}
-use denote.Triple.Walked.{says, Stays, stay_dropped, walk_of, ends_at}
-use Rattle.core.proofs.alloc.Calls.{Goes-blank, handle_tells}
-use Rattle.std.proofs.raw_atomic.Walks.{proved_at}
-use Rattle.std.specs.contracts.alloc.Global as heap
 use Rattle.ct_embed.proofs.AtHeap.{the_heap, empty_word, empty_typed, empty_in}
-use Rattle.ct_model.specs.Rehearsal.{Rehearsal, empty}
+use Rattle.ct_embed.proofs.world_handle.WorldHandle.none.Statement.{statement}
+use Rattle.std.specs.contracts.alloc.Global as heap
 use Rattle.ct_embed.specs.contracts.world_handle.WorldHandle as handles
 use Rattle.ct_embed.specs.contracts.world_handle.WorldHandle.none as f
-use Rattle.ct_embed.proofs.world_handle.WorldHandle.none.Statement.{statement}
 use Rattle.ct_embed.proofs.world_handle.WorldHandle.none.Code as code
 
 -- no world, so any value will do
