@@ -24,7 +24,8 @@ loop-i-preserved c =
     let count = length (state_of w).sent - before in
     let within : i < count = omega arith in
     let next : before + i + 1 + 1 ≡ before + (i + 1) + 1 = omega arith in
-    rw (← next) (map_one _ _ (before + i + 1) (counting_next (before + i + 1) count i within) _ _ _ (envelope_value w) _ _ c.loop-i.invariant
+    rw (← next) (map_one _ _ (before + i + 1) (counting_next (before + i + 1) count i within) _ _ _
+    (envelope_value w) _ _ c.loop-i.invariant
     c.in_ok-push_separator.ensures c.in_ok-push_envelope.ensures)
 
 pub returns : goal.returns

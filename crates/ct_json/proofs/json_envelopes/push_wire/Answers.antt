@@ -25,7 +25,8 @@ unfolding wire_fields vote_fields json_on_literals
 returns-in_ok-write-in-Dec c =
     let e = c.in-Dec in
     let value = messages_at (codes "value") c.args.value.now in
-    rw e.is (then_last c.push_messages_at-in-Dec.result (vote_fields (codes "Dec") e.instance e.round) value (string_bytes c.args.text.now) _ _
+    rw e.is (then_last c.push_messages_at-in-Dec.result (vote_fields (codes "Dec") e.instance e.round) value
+    (string_bytes c.args.text.now) _ _
     (rw append-nil c.in_ok-write-in-Dec.ensures.bytes) c.push_messages_at-in-Dec.ensures)
 
 pub returns-in-Ack : goal.returns-in-Ack

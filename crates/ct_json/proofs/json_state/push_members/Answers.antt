@@ -30,4 +30,5 @@ returns c =
     let i = c.loop-i.i in
     let now = string_bytes c.loop-i.text in
     let all : w.setting.members ≤ i = omega arith in
-    sym (append-nil now) ∙ ap (λ ns. now ++ lines_text (map f ns)) (sym (counting_none (i + 1) w.setting.members i all)) ∙ c.loop-i.invariant
+    sym (append-nil now) ∙ ap (λ ns. now ++ lines_text (map f ns)) (sym (counting_none (i + 1) w.setting.members i all))
+    ∙ c.loop-i.invariant

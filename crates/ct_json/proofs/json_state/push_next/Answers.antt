@@ -14,7 +14,8 @@ returns c =
     let between = next_between [] (codes ",") own receipt in
     let old = string_bytes c.args.text.now in
     rw (← c.requires, ← c.next_local.ensures, ← c.first_receipt.ensures) (then_same c.push_str-2.result old _ _ _
-    (ap (λ t. codes ",\"next\":" ++ t) (next_same own receipt ∙ sym (append-nil (compact_text (array_by step_data (next_steps own receipt))))))
+    (ap (λ t. codes ",\"next\":" ++ t) (next_same own receipt
+    ∙ sym (append-nil (compact_text (array_by step_data (next_steps own receipt))))))
     (pushed_str c.push_str-2.result (codes ",\"next\":[" ∷ between ∷ []) (codes "]") old _ _
     (pushed_more (codes ",\"next\":[" ∷ []) between old _ _ c.in_ok-push_str.ensures.bytes c.in_ok-push_next_between.ensures)
     c.push_str-2.ensures.bytes))

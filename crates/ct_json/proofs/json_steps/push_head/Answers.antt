@@ -11,6 +11,7 @@ unfolding head_fields json_on_literals
 returns c =
     let step = c.args.step in
     then_same c.write.result (string_bytes c.args.text.now) _ _ _
-    (ap (λ t. codes "{\"number\":" ++ (decimal c.args.number ++ (codes ",\"member\":" ++ (decimal (actor step) ++ (codes ",\"step\":" ++ t)))))
+    (ap (λ t. codes "{\"number\":" ++ (decimal c.args.number
+    ++ (codes ",\"member\":" ++ (decimal (actor step) ++ (codes ",\"step\":" ++ t)))))
     (quoted_is (step_entry step).name (name_plain step)))
     (rw (c.member-member.ensures, c.name_of-name.ensures) at c.write.ensures.bytes)

@@ -16,7 +16,8 @@ loop-i-init c =
     let got = (member_of w c.args.member).got in
     let last = c.unwrap_or-last.result in
     let is : last ≡ unwrap_or (last_decided got) 0 =
-    c.unwrap_or-last.ensures ∙ ap (λ (o : Option ℕ). unwrap_or o 0) (told_of w c.args.member _ (last_decided got) c.requires c.last_decided.ensures) in
+    c.unwrap_or-last.ensures ∙ ap (λ (o : Option ℕ). unwrap_or o 0)
+    (told_of w c.args.member _ (last_decided got) c.requires c.last_decided.ensures) in
     field_left (codes "decided") (codes ",\"decided\":[") _ (flat_map (decision_values got) (counting 1 (unwrap_or (last_decided got) 0)))
     (string_bytes c.args.text.now) _ refl c.in_ok-push_str.ensures.bytes
     (ap (flat_map (decision_values got)) (counting_all 1 last ∙ ap (counting 1) is))

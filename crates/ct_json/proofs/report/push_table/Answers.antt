@@ -7,7 +7,8 @@ use Rattle.ct_json.proofs.report.push_table.Goals as goal
 pub loop-register-init : goal.loop-register-init
 unfolding table_fields json_on_literals
 loop-register-init c =
-    field_left (codes "table") (codes ",\"table\":[") _ (map (register_value c.args.table.now) (counting 0 16)) (string_bytes c.args.text.now)
+    field_left (codes "table") (codes ",\"table\":[") _ (map (register_value c.args.table.now) (counting 0 16))
+    (string_bytes c.args.text.now)
     _ refl c.in_ok-push_str.ensures.bytes refl
 
 pub loop-register-preserved : goal.loop-register-preserved
