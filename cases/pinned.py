@@ -3,10 +3,10 @@
 leaves with a definition, or an edit of its crate's must-fail/ turns it. Names each that is neither, and ends with 1 where there is one.
 
 An equation counts where one side is what the function answers or leaves (`result`, `x.new`, or what `IfOk`, `OnOk`, `IfSome` take
-out of it), a field of it or one word of it, and no premise stands before it but C's `result ≡ 0`; but not what says only which fault
-it is, that something stays as it was, or that it is None. `IsTrue result ↔ ..` counts, and a word of specs/ that EQUATIONS has. An
-edit turns the function that its `old:` text stands in, and the one that cases/turned.txt names beside it. What C calls is exported,
-too."""
+out of it), a field of it, one word of it or a record of such, and no premise stands before it but C's `result ≡ 0`; for all values of
+some variables, too; but not what says only which fault it is, that something stays as it was, or that it is None. `IsTrue result ↔ ..`
+counts, `IsTrue x.new.field`, and a word of specs/ that EQUATIONS has. An edit turns the function that its `old:` text stands in, and
+the one that cases/turned.txt names beside it. What C calls is exported, too."""
 
 import glob
 import os
@@ -18,8 +18,13 @@ EQUATIONS = {
     "Adds": "the text is the one before with the definition's at its end",
     "Gives": "the result, seen as a value, is the definition's",
     "Appends": "what was written is what was written before, and the text",
+    "ct_rounds/IsTurn": "what is left, and the mail, are those of the algorithm's row, where its tests allow it",
+    "ct_world/IsDone": "the record is the one before and the step, and its state the algorithm's next one",
+    "ct_told/IsToldAs": "the line is the definition's of the fault, but for the place where an input stops being JSON",
+    "ct_told/IsReadOf": "the record is the definition's of the bytes, or the line that of their first fault",
     "ct_records/WritesReport": "what was written, with the report of the record's world",
     "ct_views/IsAnswer": "the text, and the first refused step, are what the view shows of the record",
+    "ct_views/Checks": "what was written is a line for what each file comes to, and the status the largest of theirs",
     "ct_views/Shows": "what was written, with that text",
     "ct_diagram/IsDiagram": "the text is the record's diagram",
     "ct_diagram/Draws": "what was written, with the record's diagram",
@@ -27,6 +32,10 @@ EQUATIONS = {
     "ct_judge/Writes": "what was written, with that line",
     "ct_judge/Keeps": "the files made are those before, and one of this name with that line",
     "ct_judge/Says": "what was written, with the session's answers",
+    "ct_listing/IsScheduleOf": "the judge makes of the text that very record",
+    "ct_listing/IsExpectingOf": "the judge makes of the text that very record, and behind it stands the goal's line",
+    "ct_listing/WritesSchedule": "what was written, with a text of which the judge makes the record that was read",
+    "ct_complete/WritesCompleted": "what was written, with the record to which turns of all lead from the one that was read",
     "ct_find/IsTallyOf": "each number is that of the seeds' hits",
 }
 
@@ -43,6 +52,8 @@ LOOSE = {"length", "vec_len", "is_some", "is_ok", "is_none", "is_err"}
 FUNCTION = re.compile(r"^[ \t]*(pub(?:\([a-z ]+\))? )?(?:const )?(?:unsafe )?(?:extern\s+)?fn (\w+)", re.M)
 OWNER = re.compile(r"^(?:unsafe )?(impl\b[^{;]*|(?:pub(?:\([a-z]+\))? )?trait\b[^{;]*)\{", re.M)
 CLAUSE = re.compile(r"(requires|ensures)\b\s*\w*\*?\s*\{")
+BOUND = re.compile(r"\(([\w ]+) : [^()]*\) → ")
+IS_TRUE = re.compile(r"(OnOk result \()?IsTrue \(?[^→()]*\.new\b[^→()]*\)*")
 TAKEN = re.compile(r"(?:OnOk|IfOk|IfSome)\s+\(?[\w.« »]+?\)?\s+\(λ\s*([\w ]+)\.")
 
 
@@ -136,10 +147,14 @@ def is_exported(function, names):
     return trait is None and function.is_pub and kind in names
 
 
-def is_taken(side, taken):
-    """Whether the side of an equation is what the function answers or leaves, a field or one word of it."""
-    words = re.findall(r"[\w.«»]+", side)
+def is_taken(side, taken, bound):
+    """Whether the side of an equation is what the function answers or leaves, a field or one word of it or of it and the variables that
+    are bound, or a record of such."""
     is_of = lambda it: it.split(".")[0] in taken or ".new" in it
+    made = re.fullmatch(r"(?:Some \()?record \{ (.*) \}\)?", side)
+    if made:
+        return all(is_of(it) for it in re.findall(r"= ([\w.]+)", made[1]))
+    words = [it for it in re.findall(r"[\w.«»]+", side) if it not in bound]
     if not 0 < len(words) <= 3 or words[0] in LOOSE:
         return False
     return any(is_of(it) for it in (words[1:] or words))
@@ -162,8 +177,10 @@ def equates(clause, crate):
     """Whether the clause of a function of the crate equates what it answers or leaves with a definition."""
     if re.match(r"(IfErr|OnErr|IfNone) ", clause):
         return False
-    clause = clause.removeprefix("result ≡ 0 → ")
-    if has_word(clause, crate) or clause.startswith("IsTrue result ↔"):
+    clause, bound = clause.removeprefix("result ≡ 0 → "), set()
+    while found := BOUND.match(clause):
+        clause, bound = clause[found.end() :], bound | set(found[1].split())
+    if has_word(clause, crate) or clause.startswith("IsTrue result ↔") or IS_TRUE.fullmatch(clause):
         return True
     taken = {"result"} | {name for names in TAKEN.findall(clause) for name in names.split()}
     for part in re.split(r" × ", clause):
@@ -172,7 +189,7 @@ def equates(clause, crate):
         left, right = (it.strip() for it in part.split(" ≡ "))
         left = re.split(r"λ [\w ]+\. |(?:OnOk|OnErr) result ", left)[-1].lstrip("(").strip()
         right = re.sub(r"\)+$", "", right) if right.count(")") > right.count("(") else right
-        if (is_taken(left, taken) or is_taken(right, taken)) and not says_nothing(left, right):
+        if (is_taken(left, taken, bound) or is_taken(right, taken, bound)) and not says_nothing(left, right):
             return True
     return False
 

@@ -58,13 +58,17 @@ class Pinned(unittest.TestCase):
 
     def test_an_equation_pins(self):
         for clause in ("result ≡ self.now.number", "IfSome result (λ n. n ≡ count self.now)", "self.new ≡ counted self.old",
-                       "OnOk result (Adds text.old text.new (count_text self.now))", "IsTrue result ↔ (0 < self.now.number)"):
+                       "OnOk result (Adds text.old text.new (count_text self.now))", "IsTrue result ↔ (0 < self.now.number)",
+                       "(k : ℕ) → count_at self.new k ≡ counted self.old k", "OnOk result (IsTrue (has_room self.new 1))",
+                       "taken self.old ≡ Some (record { after = self.new; mail = result })"):
             self.assert_taken(clause)
 
     def test_a_weaker_clause_does_not(self):
         for clause in ("result < 2 ^ 32", "self.now.open ≡ true → result ≡ self.now.number", "self.new.number ≡ self.old.number",
                        "IfErr result (λ fault. fault ≡ Fault.Memory)", "length result ≡ 4", "IsCount result self.now",
-                       "self.new ≡ record self.old { open = self.new.open }"):
+                       "self.new ≡ record self.old { open = self.new.open }", "(k : ℕ) → count_at self.new k ≡ count_at self.old k",
+                       "(k : ℕ) → IsOdd k → count_at self.new k ≡ 0", "IsTrue self.old.has_room → IsTrue self.new.has_room",
+                       "taken self.old ≡ Some (record { after = self.old; mail = 0 })"):
             self.assert_refused(clause)
 
     def test_an_edit_of_the_function_pins(self):
