@@ -58,3 +58,12 @@ place lines seen p is member =
     let high : p ≤ length seen = member_to_n (length seen) p member in
     let same : length lines ≡ length seen = sym (length-map lines (λ (l : WaitingLine). l.serials)) ∙ ap length is in
     omega arith
+
+-- the line of a member is changed
+pub serials-changed : (lines : List WaitingLine) (seen : List (List ℕ)) (p : ℕ) (f : List ℕ → List ℕ) (old new : WaitingLine) →
+    serials_of lines ≡ seen → is_member (length seen) p ≡ true → old ≡ get_or lines (p - 1) old → new.serials ≡ f old.serials →
+    serials_of (set lines (p - 1) new) ≡ set seen (p - 1) (f (line_at seen p))
+serials-changed lines seen p f old new same member is e =
+    serials-set lines (p - 1) new
+    ∙ ap (set (serials_of lines) (p - 1)) (e ∙ ap f (line_there lines (p - 1) old (place lines seen p same member) is))
+    ∙ ap (λ ls. set ls (p - 1) (f (line_at ls p))) same

@@ -3,3 +3,4 @@ pub mod EnvelopeList
 pub mod WaitingLine
 pub mod Network
 pub mod Lines
+pub mod Moves

@@ -4,6 +4,7 @@
 mod envelopes;
 mod line;
 mod lines;
+mod moves;
 mod network;
 mod packed;
 mod short;

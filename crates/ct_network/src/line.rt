@@ -1,14 +1,22 @@
 //! Waiting lines.
 
-ghost use Rattle.std.specs.Prelude.{◌≡◌, ◌+◌, ◌<◌, ◌≤◌, [], ◌∷◌, ◌++◌, length, drop, remove, OnOk, OnErr, IfOk};
+ghost use Rattle.std.specs.Prelude.{◌≡◌, true, ◌+◌, ◌<◌, ◌≤◌, [], ◌∷◌, ◌++◌, length, drop, remove, OnOk, OnErr, IfOk};
 ghost use Rattle.ct_network.specs.Network.{place_of};
+ghost use Rattle.ct_network.specs.Moves.{IsRising};
 
+use crate::moves::Moves;
 use ct_names::Serial;
 use std::alloc::{AllocError, Global};
 use std::marker::Model;
 
-/// The serials that wait at a member, in order and in one piece. What leaves near the front costs little: a leave takes
-/// time by the place in the line.
+// So many places at the front are looked through, and a serial leaves there one by one, which is faster for few.
+const NEAR: usize = 32;
+
+// Where more than so many wait somewhere it is kept in what order serials came.
+const LONG: usize = 1024;
+
+/// The serials that wait at a member, in order and in one piece. A leave moves those in front or behind, whichever are
+/// fewer.
 #[derive(Debug, Drop)]
 pub(crate) struct Line {
     kept: Vec<Serial>,
@@ -54,10 +62,21 @@ impl Line {
     }
 
     /// The first place of the serial, counted from 0.
-    pub(crate) fn find(&self, serial: Serial) -> Option<usize>
+    pub(crate) fn find(&self, serial: Serial, moves: &Moves) -> Option<usize>
+        requires { moves.now.is_sorted ≡ true → IsRising moves.now.keys.items moves.now.base self.now.serials }
         ensures { result ≡ place_of serial self.now.serials }
     {
-        self.as_slice().iter().position(|other| *other == serial)
+        let line = self.as_slice();
+        let near = if line.len() > NEAR { NEAR } else { line.len() };
+        match first(&line[..near], serial) {
+            Some(place) => Some(place),
+            None => find_far(line, serial, moves),
+        }
+    }
+
+    /// Whether many serials wait.
+    pub(crate) fn is_long(&self) -> bool {
+        self.kept.len() - self.start > LONG
     }
 
     /// Makes room for so many more serials. Where that is missing the line first takes back the places of the serials
@@ -84,13 +103,34 @@ impl Line {
     }
 
     /// The serial at this place, counted from 0, leaves; the others stay in order.
+    #[inline(always)]
     pub(crate) fn leave(&mut self, at: usize)
         requires { at < length self.old.serials }
         ensures serials { self.new.serials ≡ remove self.old.serials at }
-        ensures room { self.new.room ≡ self.old.room }
+        ensures room { self.old.room ≤ self.new.room }
     {
-        take_out(&mut self.kept, self.start, at);
-        self.start += 1;
+        if at < NEAR {
+            take_out(&mut self.kept, self.start, at);
+            self.start += 1;
+        } else {
+            self.leave_far(at);
+        }
+    }
+
+    // The same far from the front, where the shorter side moves at once.
+    #[inline(never)]
+    fn leave_far(&mut self, at: usize)
+        requires { at < length self.old.serials }
+        ensures serials { self.new.serials ≡ remove self.old.serials at }
+        ensures room { self.old.room ≤ self.new.room }
+    {
+        let place = self.start + at;
+        if at < self.kept.len() - place {
+            take_out_far(&mut self.kept, self.start, at);
+            self.start += 1;
+        } else {
+            let _ = self.kept.remove(place);
+        }
     }
 
     // The places of the serials that left become room.
@@ -105,6 +145,27 @@ impl Line {
     }
 }
 
+// The first place of the serial, which doesn't stand near the front.
+#[inline(never)]
+fn find_far(line: &[Serial], serial: Serial, moves: &Moves) -> Option<usize>
+    requires { moves.now.is_sorted ≡ true → IsRising moves.now.keys.items moves.now.base line.now }
+    ensures { result ≡ place_of serial line.now }
+{
+    if moves.is_sorted && line.len() > NEAR {
+        moves.find(line, serial)
+    } else {
+        first(line, serial)
+    }
+}
+
+/// The first place of the serial.
+#[inline(always)]
+pub(crate) fn first(line: &[Serial], serial: Serial) -> Option<usize>
+    ensures { result ≡ place_of serial line.now }
+{
+    line.iter().position(|other| *other == serial)
+}
+
 // Removes the item at this place from `start` on, and leaves the rest one place further on.
 #[inline(always)]
 fn take_out(kept: &mut [Serial], start: usize, at: usize)
@@ -114,4 +175,12 @@ fn take_out(kept: &mut [Serial], start: usize, at: usize)
     if at > 0 {
         kept.copy_within(start..start + at, start + 1);
     }
+}
+
+// The same, faster where many stand before it.
+fn take_out_far(kept: &mut [Serial], start: usize, at: usize)
+    requires { start + at < length kept.old }
+    ensures { drop (start + 1) kept.new ≡ remove (drop start kept.old) at }
+{
+    kept[start..start + at + 1].rotate_right(1);
 }

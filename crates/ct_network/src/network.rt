@@ -12,6 +12,7 @@ mod sending;
 use crate::envelopes::Envelopes;
 use crate::line::Line;
 use crate::lines;
+use crate::moves::Moves;
 use ct_model::Envelope;
 use ct_names::{Member, Serial};
 use std::alloc::{AllocError, Global};
@@ -24,11 +25,14 @@ pub struct Network {
     lines: Vec<Line>,
     // So many more serials can join each line without memory, and perhaps more.
     spare: usize,
+    // In what order serials came to long lines.
+    moves: Moves,
 }
 
 impl Model for Network {
     ghost use Rattle.std.specs.Prelude.{◌&&◌, nat_le, nat_lt, length};
     ghost use Rattle.ct_network.specs.Lines.{serials_of, HaveRoom};
+    ghost use Rattle.ct_network.specs.Moves.{AreInOrder};
     ghost use Rattle.ct_network.specs.Network.{NetworkView};
 
     ghost Value = { NetworkView };
@@ -39,7 +43,7 @@ impl Model for Network {
       has_room = nat_le (length a.lines.items) a.envelopes.room && nat_lt 0 a.spare;
     } };
 
-    ghost invariant = { λ a. HaveRoom a.lines.items a.spare };
+    ghost invariant = { λ a. HaveRoom a.lines.items a.spare × AreInOrder a.envelopes.items (serials_of a.lines.items) a.moves };
 }
 
 impl Network {
@@ -52,6 +56,7 @@ impl Network {
             envelopes: Envelopes::new(alloc),
             lines: lines::new_lines(alloc, members)?,
             spare: 0,
+            moves: Moves::new(alloc),
         })
     }
 
@@ -64,6 +69,7 @@ impl Network {
             envelopes: self.envelopes.copy(alloc)?,
             lines: lines::copy_lines(alloc, &self.lines)?,
             spare: 0,
+            moves: self.moves.copy(alloc)?,
         })
     }
 
@@ -103,6 +109,6 @@ impl Network {
         ensures { result ≡ (if is_member (length self.now.lines) member then place_of serial (line_at self.now.lines member) else None) }
     {
         let at = (member as usize).checked_sub(1)?;
-        self.lines.get(at)?.find(serial)
+        self.lines.get(at)?.find(serial, &self.moves)
     }
 }

@@ -29,6 +29,9 @@ impl Network {
         self.envelopes.make_room(self.lines.len())?;
         if self.spare == 0 {
             lines::make_room(&mut self.lines, AHEAD)?;
+            let more = self.lines.len().saturating_mul(AHEAD);
+            let long = !self.moves.are_kept() && self.lines.iter().any(|line| line.is_long());
+            self.moves.make_room(self.envelopes.len(), more, long)?;
             self.spare = AHEAD;
         }
         Ok(())
