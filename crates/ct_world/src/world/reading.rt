@@ -1,6 +1,6 @@
 //! What is known of a world. No call takes memory.
 
-ghost use Rattle.std.specs.Prelude.{◌≡◌, ◌≤◌, ◌&&◌, length, map, is_some, IfSome, option_and_then, option_map};
+ghost use Rattle.std.specs.Prelude.{◌≡◌, ◌≤◌, ◌&&◌, ◌==◌, length, map, is_some, position, IfSome, option_and_then, option_map};
 ghost use Rattle.ct_names.specs.Group.{is_member};
 ghost use Rattle.ct_model.specs.Cause.{order};
 ghost use Rattle.ct_model.specs.Mapped.{without_value};
@@ -54,6 +54,13 @@ impl World {
         ensures { option_map (λ line. line.now) result ≡ of_member self.now.rehearsal member (line_of self.now.rehearsal member) }
     {
         self.kept.network.line(member)
+    }
+
+    /// The place of a serial in a member's line, counted from 0; None where it doesn't wait there, and for no member of the group.
+    pub fn place(&self, member: Member, serial: Serial) -> Option<usize>
+        ensures { result ≡ if_member self.now.rehearsal member (position (λ k. k == serial) (line_of self.now.rehearsal member)) }
+    {
+        self.kept.network.find(member, serial)
     }
 
     /// The messages that a member received, in order of first receipt; None for no member of the group.
