@@ -21,7 +21,6 @@ EQUATIONS = {
     "ct_rounds/IsTurn": "what is left, and the mail, are those of the algorithm's row, where its tests allow it",
     "ct_world/IsDone": "the record is the one before and the step, and its state the algorithm's next one",
     "ct_told/IsToldAs": "the line is the definition's of the fault, but for the place where an input stops being JSON",
-    "ct_told/IsReadOf": "the record is the definition's of the bytes, or the line that of their first fault",
     "ct_records/WritesReport": "what was written, with the report of the record's world",
     "ct_views/IsAnswer": "the text, and the first refused step, are what the view shows of the record",
     "ct_views/Checks": "what was written is a line for what each file comes to, and the status the largest of theirs",

@@ -14,7 +14,7 @@ use Rattle.ct_walk.specs.Finding.{first_of}
 use Rattle.ct_best.specs.declared.fault.BestFault.{BestFault}
 use Rattle.ct_best.specs.declared.fault.BestFault.TheVariants.{Walk}
 use Rattle.ct_find.specs.declared.hit.Hit.{Hit}
-use Rattle.ct_best.specs.declared.left.Left.{Left}
+use Rattle.ct_best.specs.declared.shrinking.Left.{Left}
 use Rattle.ct_best.specs.declared.smaller_walk.SmallerWalk.{SmallerWalk}
 use Rattle.ct_best.specs.Best.{run_of, FailsOn, FailsOnOne, IsBest, IsToldOf}
 use Rattle.ct_find.specs.Hits.{hits_of}

@@ -11,7 +11,7 @@ use Rattle.ct_grammar.specs.declared.goal.Goal.{Goal}
 use Rattle.ct_shrink.specs.declared.options.ShrinkOptions.{ShrinkOptions}
 use Rattle.ct_walk.specs.declared.options.WalkOptions.{WalkOptions}
 use Rattle.ct_find.specs.declared.hit.Hit.{Hit}
-use Rattle.ct_best.specs.declared.left.Left.{Left}
+use Rattle.ct_best.specs.declared.shrinking.Left.{Left}
 use Rattle.ct_best.specs.declared.smaller_walk.SmallerWalk.{SmallerWalk}
 use Rattle.ct_best.specs.Best.{IsBest, IsLeftOf, IsRunLeft, IsSmallest, IsToldOf, LeftRun, is_less, run_of, smaller_of}
 

@@ -17,7 +17,7 @@ use Rattle.ct_find.specs.declared.call.FindCall.{FindCall}
 use Rattle.ct_best.specs.declared.fault.BestFault.{BestFault}
 use Rattle.ct_best.specs.declared.fault.BestFault.TheVariants.{Walk, Shrink, NotFound}
 use Rattle.ct_find.specs.declared.hit.Hit.{Hit}
-use Rattle.ct_best.specs.declared.left.Left.{Left}
+use Rattle.ct_best.specs.declared.shrinking.Left.{Left}
 use Rattle.ct_best.specs.declared.smaller_walk.SmallerWalk.{SmallerWalk}
 use Rattle.ct_find.specs.declared.fault.FindFault.TheVariants as find
 use Rattle.ct_find.specs.Writing.{first_hits, FindsNothing, IsOfRun}

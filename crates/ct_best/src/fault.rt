@@ -1,7 +1,8 @@
 //! Why no smallest run is written.
 
-ghost use Rattle.std.specs.Prelude.{Some};
+ghost use Rattle.std.specs.Prelude.{◌≡◌, Some};
 ghost use Rattle.ct_best.specs.Faults.{fault_text, status_of};
+ghost use Rattle.ct_best.specs.declared.fault.BestFault.TheVariants.{Shrink, Walk};
 
 use ct_find::NotFound;
 use ct_shrink::ShrinkFault;
@@ -46,9 +47,6 @@ impl fmt::Display for BestFault {
 }
 
 impl From<WalkFault> for BestFault {
-    ghost use Rattle.std.specs.Prelude.{◌≡◌};
-    ghost use Rattle.ct_best.specs.declared.fault.BestFault.TheVariants.{Walk};
-
     ghost from_gives = { λ fault best. best ≡ Walk fault };
 
     fn from(fault: WalkFault) -> BestFault {
@@ -57,9 +55,6 @@ impl From<WalkFault> for BestFault {
 }
 
 impl From<ShrinkFault> for BestFault {
-    ghost use Rattle.std.specs.Prelude.{◌≡◌};
-    ghost use Rattle.ct_best.specs.declared.fault.BestFault.TheVariants.{Shrink};
-
     ghost from_gives = { λ fault best. best ≡ Shrink fault };
 
     fn from(fault: ShrinkFault) -> BestFault {

@@ -3,7 +3,6 @@
 
 mod best;
 mod fault;
-mod left;
 mod shrinking;
 mod smaller_walk;
 mod words;

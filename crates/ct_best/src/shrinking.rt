@@ -7,10 +7,9 @@ ghost use Rattle.ct_walk.specs.declared.fault.WalkFault.TheVariants as walk;
 ghost use Rattle.ct_walk.specs.Faults.{IsShort};
 ghost use Rattle.ct_walk.specs.Options.{IsInRange, with_seed};
 ghost use Rattle.ct_walk.specs.Walking.{walked};
-ghost use Rattle.ct_best.specs.Best.{run_of, FailsOn, FailsOnOne, IsBest, IsLeftOf, IsToldOf};
+ghost use Rattle.ct_best.specs.Best.{run_of, smaller_of, FailsOn, FailsOnOne, IsBest, IsLeftOf, IsToldOf};
 
 use crate::fault::BestFault;
-use crate::left::{Left, smaller_of};
 use crate::smaller_walk::SmallerWalk;
 use ct_find::Hit;
 use ct_grammar::Goal;
@@ -94,4 +93,27 @@ fn walked(alloc: Global, options: &WalkOptions, goal: &Goal, seed: u32) -> Resul
     let script = ct_shrink::script_of(alloc, &world);
     drop(world);
     Ok(script?)
+}
+
+// A run that is left of a walk: what is told of it, and its text.
+#[derive(Drop)]
+pub(crate) struct Left {
+    pub(crate) walk: SmallerWalk,
+    pub(crate) text: Vec<u8>,
+}
+
+// The smaller one of the two, where there are two.
+fn smaller_of(best: Option<Left>, left: Left) -> Left
+    ensures { run_of result ≡ smaller_of (option_map run_of best) (run_of left) }
+{
+    match best {
+        None => left,
+        Some(best) => {
+            if left.walk.is_less(&best.walk) {
+                left
+            } else {
+                best
+            }
+        }
+    }
 }

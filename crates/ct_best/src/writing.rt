@@ -9,8 +9,7 @@ ghost use Rattle.ct_find.specs.Writing.{Repeats};
 
 use crate::best::{Best, BestOptions};
 use crate::fault::BestFault;
-use crate::left::Left;
-use crate::shrinking::best_of;
+use crate::shrinking::{Left, best_of};
 use ct_find::{Again, FindCall, NotFound, Progress, first_hits, quoted_goal};
 use ct_shrink::Progress as TrialProgress;
 use ct_streams::{Failed, Sink, write_all};

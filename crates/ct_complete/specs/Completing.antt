@@ -2,8 +2,7 @@
 use Rattle.std.specs.Prelude.{◌≡◌, ⊤, ℕ, List, [], ◌∷◌, ◌++◌, Option, Some, Result, Ok, IsOkAnd, string_bytes}
 use Rattle.std.specs.Io.KnownBytes.{Appends}
 use Rattle.ct_model.specs.Rehearsal.{Rehearsal}
-use Rattle.ct_streams.specs.Streams.{WritesPart, read_part}
-use Rattle.ct_records.specs.declared.program_fault.ProgramFault.TheVariants.{Reader, Write}
+use Rattle.ct_streams.specs.Streams.{WritesPart}
 use Rattle.ct_records.specs.declared.read_fault.ReadFault.{ReadFault}
 use Rattle.ct_records.specs.Replay.{IsAllowed}
 use Rattle.ct_records.specs.Script.{script}
@@ -16,7 +15,8 @@ use Rattle.ct_settled.specs.Completing.{completion}
 use Rattle.ct_settled.specs.Hindrance.{hindrance}
 use Rattle.ct_settled.specs.Settled.{AreDone}
 use Rattle.ct_judging.specs.Hindering.{hindrance_text}
-use Rattle.ct_listing.specs.Listing.{IsOfListing, IsRefusal}
+use Rattle.ct_listing.specs.Listing as listing
+use Rattle.ct_listing.specs.Listing.{IsRefusal}
 use Rattle.ct_complete.specs.declared.complete_fault.CompleteFault.{CompleteFault}
 use Rattle.ct_complete.specs.declared.complete_fault.CompleteFault.TheVariants.{Hindered, Board, Show}
 use Rattle.ct_complete.specs.declared.obstacle.Obstacle.{Obstacle}
@@ -44,29 +44,18 @@ IsFaultOn w Board = ⊤
 IsFaultOn w (Show (Program fault)) = IsRefusal fault w
 IsFaultOn w (Show _) = ⊥
 
--- ---- of the bytes that were read
-
-abbrev pub IsCompletedIn : Result Rehearsal ReadFault → List ℕ → Type 0
-IsCompletedIn read text = IsOkAnd read (λ w. IsCompleted w text)
-
--- the fault is that of reading, of the record's steps, or of what its turns lead to. Of the board nothing is said
-abbrev pub IsFaultIn : CompleteFault → List ℕ → Type 0
-IsFaultIn (Hindered obstacle) bytes = IsOkAnd (script bytes) (λ w. IsHindered w obstacle)
-IsFaultIn Board bytes = ⊤
-IsFaultIn (Show fault) bytes = IsOfListing fault bytes
-
 -- ---- of the input
 
 -- the input is a record; a completed one, and nothing else, was written
 abbrev pub WritesCompleted : Result Rehearsal ReadFault → Option (List ℕ) → Option (List ℕ) → Type 0
-WritesCompleted read old new = (text : List ℕ) × IsCompletedIn read text × Appends old new text
+WritesCompleted read old new = IsOkAnd read (λ w. (text : List ℕ) × IsCompleted w text × Appends old new text)
 
 -- the same, and some first bytes of it, and nothing else, were written
 abbrev pub WritesCompletedInPart : Result Rehearsal ReadFault → Option (List ℕ) → Option (List ℕ) → Type 0
-WritesCompletedInPart read old new = (text : List ℕ) × IsCompletedIn read text × WritesPart old new text
+WritesCompletedInPart read old new = IsOkAnd read (λ w. (text : List ℕ) × IsCompleted w text × WritesPart old new text)
 
 -- the input is no record, one of its steps is refused, or it isn't completed. Of streams, of memory and of the board nothing is said
 abbrev pub FailsOn : CompleteFault → List ℕ → Type 0
-FailsOn (Show (Program Reader)) input = ⊤
-FailsOn (Show (Program Write)) input = ⊤
-FailsOn fault input = IsFaultIn fault (read_part input)
+FailsOn (Hindered obstacle) input = IsOkAnd (script input) (λ w. IsHindered w obstacle)
+FailsOn Board input = ⊤
+FailsOn (Show fault) input = listing.FailsOn fault input

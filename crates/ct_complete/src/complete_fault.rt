@@ -1,14 +1,15 @@
 //! Why a run isn't completed.
 
 ghost use Rattle.std.specs.Prelude.{◌≡◌, Some};
-ghost use Rattle.ct_complete.specs.Faults.{fault_text, status_of};
+ghost use Rattle.ct_told.specs.declared.show_fault.ShowFault.TheVariants.{Program};
+ghost use Rattle.ct_complete.specs.Faults.{fault_text, of_line_fault, status_of};
+ghost use Rattle.ct_complete.specs.declared.complete_fault.CompleteFault.TheVariants.{Show};
 
 use crate::obstacle::Obstacle;
 use ct_play::LineFault;
 use ct_records::ProgramFault;
-use ct_streams::{Fault, InputFault, Status};
+use ct_streams::{Fault, Status};
 use ct_told::ShowFault;
-use std::alloc::AllocError;
 use std::fmt;
 
 /// Why a run isn't completed, or not written. Its text is the line for standard error.
@@ -51,9 +52,6 @@ impl fmt::Display for CompleteFault {
 }
 
 impl From<LineFault> for CompleteFault {
-    ghost use Rattle.ct_complete.specs.Faults.{of_line_fault};
-    ghost use Rattle.std.specs.Prelude.{◌≡◌};
-
     ghost from_gives = { λ line fault. fault ≡ of_line_fault line };
 
     fn from(line: LineFault) -> CompleteFault {
@@ -65,9 +63,6 @@ impl From<LineFault> for CompleteFault {
 }
 
 impl From<ShowFault> for CompleteFault {
-    ghost use Rattle.std.specs.Prelude.{◌≡◌};
-    ghost use Rattle.ct_complete.specs.declared.complete_fault.CompleteFault.TheVariants.{Show};
-
     ghost from_gives = { λ show fault. fault ≡ Show show };
 
     fn from(show: ShowFault) -> CompleteFault {
@@ -76,39 +71,9 @@ impl From<ShowFault> for CompleteFault {
 }
 
 impl From<ProgramFault> for CompleteFault {
-    ghost use Rattle.std.specs.Prelude.{◌≡◌};
-    ghost use Rattle.ct_told.specs.declared.show_fault.ShowFault.TheVariants.{Program};
-    ghost use Rattle.ct_complete.specs.declared.complete_fault.CompleteFault.TheVariants.{Show};
-
     ghost from_gives = { λ program fault. fault ≡ Show (Program program) };
 
     fn from(program: ProgramFault) -> CompleteFault {
         CompleteFault::Show(ShowFault::Program(program))
-    }
-}
-
-impl From<AllocError> for CompleteFault {
-    ghost use Rattle.std.specs.Prelude.{◌≡◌};
-    ghost use Rattle.ct_records.specs.declared.program_fault.ProgramFault.TheVariants.{Memory};
-    ghost use Rattle.ct_told.specs.declared.show_fault.ShowFault.TheVariants.{Program};
-    ghost use Rattle.ct_complete.specs.declared.complete_fault.CompleteFault.TheVariants.{Show};
-
-    ghost from_gives = { λ _ fault. fault ≡ Show (Program Memory) };
-
-    fn from(_error: AllocError) -> CompleteFault {
-        CompleteFault::Show(ShowFault::Program(ProgramFault::Memory))
-    }
-}
-
-impl From<InputFault> for CompleteFault {
-    ghost use Rattle.std.specs.Prelude.{◌≡◌};
-    ghost use Rattle.ct_records.specs.ProgramFault.{of_input_fault};
-    ghost use Rattle.ct_told.specs.declared.show_fault.ShowFault.TheVariants.{Program};
-    ghost use Rattle.ct_complete.specs.declared.complete_fault.CompleteFault.TheVariants.{Show};
-
-    ghost from_gives = { λ input fault. fault ≡ Show (Program (of_input_fault input)) };
-
-    fn from(input: InputFault) -> CompleteFault {
-        CompleteFault::Show(ShowFault::from(input))
     }
 }

@@ -1,8 +1,7 @@
 //! From a record to the end of its run.
 
-ghost use Rattle.std.specs.Prelude.{◌≡◌, ◌++◌, ◌∷◌, [], IfOk, IfErr, string_bytes};
+ghost use Rattle.std.specs.Prelude.{◌≡◌, IfOk, IfErr, string_bytes};
 ghost use Rattle.ct_world.specs.Setup.{record_of};
-ghost use Rattle.ct_records.specs.Text.{record_text};
 ghost use Rattle.ct_records.specs.View.{rehearsal_of};
 ghost use Rattle.ct_play.specs.Goals.{uncut};
 ghost use Rattle.ct_judging.specs.Hindering.{hindrance_text};
@@ -11,13 +10,13 @@ ghost use Rattle.ct_complete.specs.Completing.{IsCompleted, IsFaultOn};
 use crate::complete_fault::CompleteFault;
 use crate::obstacle::Obstacle;
 use ct_judge::push_hindrance;
-use ct_listing::replay;
+use ct_listing::{record_line, replay};
 use ct_model::Step;
 use ct_play::{LineFault, Stage};
-use ct_records::{Script, write_record};
+use ct_records::Script;
 use ct_settled::{Hindrance, complete};
-use ct_world::{Setup, World};
-use std::alloc::{AllocError, Global};
+use ct_world::Setup;
+use std::alloc::Global;
 
 // The record, with turns behind its steps until all is done, as a record and a line feed; else what stands in the way.
 #[tactic(auto, using(crate::proofs::Ending::staged_is, crate::proofs::Ending::hindered_is, crate::proofs::Ending::handed_on))]
@@ -25,7 +24,7 @@ pub(crate) fn completed(alloc: Global, script: &Script) -> Result<Vec<u8>, Compl
     ensures ok { IfOk result (λ text. IsCompleted (rehearsal_of script.now) text.items) }
     ensures fault { IfErr result (IsFaultOn (rehearsal_of script.now)) }
 {
-    replay(alloc, script)?;
+    drop(replay(alloc, script)?);
     let mut stage = staged(alloc, script.setup(), &script.steps)?;
     match complete(alloc, &mut stage)? {
         None => Ok(record_line(alloc, stage.world())?),
@@ -50,20 +49,11 @@ fn staged(alloc: Global, setup: Setup, steps: &[Step]) -> Result<Stage, LineFaul
 }
 
 // What stands in the way on the stage, and its text.
-fn told(alloc: Global, stage: &Stage, hindrance: Hindrance) -> Result<Obstacle, AllocError>
+fn told(alloc: Global, stage: &Stage, hindrance: Hindrance) -> Result<Obstacle, LineFault>
     ensures { IfOk result (λ told. (told.hindrance ≡ hindrance)
         × (string_bytes told.text ≡ hindrance_text stage.now.rehearsal hindrance)) }
 {
     let mut text = String::new(alloc);
     push_hindrance(&mut text, stage, hindrance)?;
     Ok(Obstacle { hindrance, text })
-}
-
-// The record and a line feed.
-fn record_line(alloc: Global, world: &World) -> Result<Vec<u8>, AllocError>
-    ensures { IfOk result (λ text. text.items ≡ record_text world.now.rehearsal ++ 10 ∷ []) }
-{
-    let mut text = write_record(alloc, world)?;
-    text.push(b'\n')?;
-    Ok(text)
 }

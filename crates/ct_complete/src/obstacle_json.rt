@@ -6,7 +6,6 @@ ghost use Rattle.ct_streams.specs.Streams.{FailsOnce};
 ghost use Rattle.ct_judging.specs.Wording.{behind};
 ghost use Rattle.ct_complete.specs.Json.{hindrance_json, hindrance_part, obstacle_json, text_part};
 
-use crate::complete_fault::CompleteFault;
 use crate::obstacle::Obstacle;
 use ct_records::ProgramFault;
 use ct_settled::Hindrance;
@@ -19,17 +18,16 @@ pub fn write_obstacle<W: Sink>(
     alloc: Global,
     writer: &mut W,
     obstacle: &Obstacle,
-) -> Result<(), CompleteFault>
+) -> Result<(), ShowFault>
     requires { W.failures writer.old < 2 ^ 63 }
     ensures ok { OnOk result (Appends (W.written writer.old) (W.written writer.new) (obstacle_json obstacle.now)) }
-    ensures writer { FailsOnce result (CompleteFault.Show (ShowFault.Program ProgramFault.Write))
-        (W.failures writer.old) (W.failures writer.new) }
+    ensures writer { FailsOnce result (ShowFault.Program ProgramFault.Write) (W.failures writer.old) (W.failures writer.new) }
 {
     let mut line = String::new(alloc);
     push_obstacle(&mut line, obstacle)?;
     match write_all(writer, line.as_bytes()) {
         Ok(()) => Ok(()),
-        Err(Failed) => Err(CompleteFault::Show(ShowFault::Program(ProgramFault::Write))),
+        Err(Failed) => Err(ShowFault::Program(ProgramFault::Write)),
     }
 }
 

@@ -1,16 +1,14 @@
 //! A record in, a completed one out.
 
-ghost use Rattle.std.specs.Prelude.{◌≡◌, ◌≢◌, ◌<◌, ◌^◌, Ok, Err, IfOk, IfErr, IfSome, OnOk};
+ghost use Rattle.std.specs.Prelude.{◌≡◌, ◌≢◌, ◌<◌, ◌^◌, Err, IfErr, IfSome, OnOk};
 ghost use Rattle.ct_streams.specs.Streams.{FailsOnce};
 ghost use Rattle.ct_records.specs.Script.{script};
-ghost use Rattle.ct_records.specs.View.{rehearsal_of};
-ghost use Rattle.ct_listing.specs.Listing.{IsOfListing};
-ghost use Rattle.ct_complete.specs.Completing.{FailsOn, IsCompletedIn, IsFaultIn, WritesCompleted, WritesCompletedInPart};
+ghost use Rattle.ct_complete.specs.Completing.{FailsOn, WritesCompleted, WritesCompletedInPart};
 
 use crate::complete_fault::CompleteFault;
 use crate::completing::completed;
-use ct_records::{ProgramFault, Script};
-use ct_streams::{Failed, Sink, Source, read_all, write_all};
+use ct_records::ProgramFault;
+use ct_streams::{Failed, Sink, Source, write_all};
 use ct_told::{ShowFault, read_told};
 use std::alloc::Global;
 
@@ -39,32 +37,10 @@ pub fn write_completed<R: Source, W: Sink>(
     // Nothing was written but where the writer failed.
     ensures quiet { IfErr result (λ fault. fault ≢ CompleteFault.Show (ShowFault.Program ProgramFault.Write) → writer.new ≡ writer.old) }
 {
-    let bytes = read_all(alloc, reader)?;
-    let text = completed_in(alloc, bytes)?;
+    let script = read_told(alloc, reader)?;
+    let text = completed(alloc, &script)?;
     match write_all(writer, &text) {
         Ok(()) => Ok(()),
         Err(Failed) => Err(CompleteFault::Show(ShowFault::Program(ProgramFault::Write))),
-    }
-}
-
-// The same of the record that the bytes are, which are freed before it goes on.
-#[tactic(auto, using(crate::proofs::Reading::text_in, crate::proofs::Reading::fault_in))]
-fn completed_in(alloc: Global, bytes: Vec<u8>) -> Result<Vec<u8>, CompleteFault>
-    ensures ok { IfOk result (λ text. IsCompletedIn (script bytes.items) text.items) }
-    ensures fault { IfErr result (λ fault. IsFaultIn fault bytes.items) }
-{
-    let script = read(alloc, &bytes)?;
-    drop(bytes);
-    completed(alloc, &script)
-}
-
-// The record that the bytes are.
-fn read(alloc: Global, bytes: &[u8]) -> Result<Script, ShowFault>
-    ensures ok { IfOk result (λ read. script bytes.now ≡ Ok (rehearsal_of read)) }
-    ensures fault { IfErr result (λ fault. IsOfListing fault bytes.now) }
-{
-    match read_told(alloc, bytes)? {
-        Ok(script) => Ok(script),
-        Err(told) => Err(ShowFault::Unread(told)),
     }
 }

@@ -6,13 +6,13 @@ use Rattle.ct_records.specs.declared.program_fault.ProgramFault.TheVariants.{Rea
 use Rattle.ct_records.specs.declared.read_fault.ReadFault.{ReadFault}
 use Rattle.ct_records.specs.Replay.{IsAllowed}
 use Rattle.ct_records.specs.Script.{script}
-use Rattle.ct_streams.specs.Streams.{WritesPart}
+use Rattle.ct_streams.specs.Streams.{WritesPart, read_part}
 use Rattle.ct_told.specs.NoRecords.{IsToldOf}
 use Rattle.ct_told.specs.declared.show_fault.ShowFault.{ShowFault}
 use Rattle.ct_told.specs.declared.show_fault.ShowFault.TheVariants.{NoMember, Unread, Program}
 use Rattle.ct_diagram.specs.declared.window.TheConstants.{MOST_STEPS}
 use Rattle.ct_diagram.specs.declared.window.Window.{Window}
-use Rattle.ct_diagram.specs.Diagram.{diagram_text, IsDiagram, FailsWith}
+use Rattle.ct_diagram.specs.Diagram.{diagram_text, FailsWith}
 use Rattle.ct_diagram.specs.Window.{lacking, part_of, steps_in}
 
 -- the input is a record whose steps up to the window's last one are allowed, and as many of them as a diagram can have are the
@@ -32,22 +32,12 @@ DrawsPart window read old new = IsOkAnd read (λ w.
 abbrev pub Lacks : Window → ℕ → ℕ → Rehearsal → Type 0
 Lacks window member members w = (lacking window w ≡ Some member) × (members ≡ w.setting.members)
 
--- the bytes that were read are no record, or the record's group lacks a member that is asked for, or the fault is that of drawing the
--- record. Of streams and of memory nothing is said
+-- the input is no record, or the record's group lacks a member that is asked for, or the fault is that of drawing the record. Of streams
+-- and of memory nothing is said
 abbrev pub FailsOn : Window → ShowFault → List ℕ → Type 0
-FailsOn window (NoMember member members) bytes = IsOkAnd (script bytes) (Lacks window member members)
-FailsOn window (Unread told) bytes = IsToldOf told bytes
-FailsOn window (Program Reader) bytes = ⊤
-FailsOn window (Program Write) bytes = ⊤
-FailsOn window (Program Memory) bytes = ⊤
-FailsOn window fault bytes = IsOkAnd (script bytes) (λ w. FailsWith window fault w)
-
--- the same of a fault that comes before anything is written: it is of no stream
-abbrev pub IsOfDrawing : Window → ShowFault → List ℕ → Type 0
-IsOfDrawing window (Program Reader) bytes = ⊥
-IsOfDrawing window (Program Write) bytes = ⊥
-IsOfDrawing window fault bytes = FailsOn window fault bytes
-
--- this is the diagram of the record that was read
-abbrev pub IsDiagramOf : Window → Result Rehearsal ReadFault → List ℕ → Type 0
-IsDiagramOf window read text = IsOkAnd read (λ w. IsDiagram window w text)
+FailsOn window (NoMember member members) input = IsOkAnd (script input) (Lacks window member members)
+FailsOn window (Unread told) input = IsToldOf told (read_part input)
+FailsOn window (Program Reader) input = ⊤
+FailsOn window (Program Write) input = ⊤
+FailsOn window (Program Memory) input = ⊤
+FailsOn window fault input = IsOkAnd (script input) (λ w. FailsWith window fault w)

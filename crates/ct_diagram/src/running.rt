@@ -1,16 +1,15 @@
 //! A record in, its diagram out.
 
-ghost use Rattle.std.specs.Prelude.{◌≡◌, ◌≢◌, ◌<◌, ◌^◌, Err, IfOk, IfErr, IfSome, IsOkAnd, None, OnOk};
+ghost use Rattle.std.specs.Prelude.{◌≡◌, ◌≢◌, ◌<◌, ◌^◌, Err, IfErr, IfSome, IsOkAnd, None, OnOk};
 ghost use Rattle.ct_streams.specs.Streams.{FailsOnce};
 ghost use Rattle.ct_records.specs.Script.{script};
-ghost use Rattle.ct_streams.specs.Streams.{read_part};
-ghost use Rattle.ct_diagram.specs.Running.{Draws, DrawsPart, FailsOn, IsDiagramOf, IsOfDrawing};
+ghost use Rattle.ct_diagram.specs.Running.{Draws, DrawsPart, FailsOn};
 ghost use Rattle.ct_diagram.specs.Window.{lacking};
 
 use crate::drawing::diagram;
 use crate::window::Window;
 use ct_records::ProgramFault;
-use ct_streams::{Failed, Sink, Source, read_all, write_all};
+use ct_streams::{Failed, Sink, Source, write_all};
 use ct_told::{ShowFault, read_told};
 use std::alloc::Global;
 
@@ -30,7 +29,7 @@ pub fn draw<R: Source, W: Sink>(
         Draws window.now (script input) (W.written writer.old) (W.written writer.new))) }
     // Members that are asked for are members of the record's group.
     ensures members { OnOk result (IfSome (R.left reader.old) (λ input. IsOkAnd (script input) (λ w. lacking window.now w ≡ None))) }
-    ensures fault { IfErr result (λ fault. IfSome (R.left reader.old) (λ input. FailsOn window.now fault (read_part input))) }
+    ensures fault { IfErr result (λ fault. IfSome (R.left reader.old) (FailsOn window.now fault)) }
     // Where the writer failed, some first bytes of such a diagram were written.
     ensures part { result ≡ Err (ShowFault.Program ProgramFault.Write) → IfSome (R.left reader.old) (λ input.
         DrawsPart window.now (script input) (W.written writer.old) (W.written writer.new)) }
@@ -39,28 +38,14 @@ pub fn draw<R: Source, W: Sink>(
     // Nothing was written but where the writer failed.
     ensures quiet { IfErr result (λ fault. fault ≢ ShowFault.Program ProgramFault.Write → writer.new ≡ writer.old) }
 {
-    let bytes = read_all(alloc, reader)?;
-    let text = drawn(alloc, bytes, window)?;
-    match write_all(writer, &text) {
-        Ok(()) => Ok(()),
-        Err(Failed) => Err(ShowFault::Program(ProgramFault::Write)),
-    }
-}
-
-// The diagram of the record, whose bytes are freed before it is drawn.
-fn drawn(alloc: Global, bytes: Vec<u8>, window: &Window) -> Result<Vec<u8>, ShowFault>
-    ensures ok { IfOk result (λ text. IsDiagramOf window.now (script bytes.items) text.items) }
-    ensures members { OnOk result (IsOkAnd (script bytes.items) (λ w. lacking window.now w ≡ None)) }
-    ensures fault { IfErr result (λ fault. IsOfDrawing window.now fault bytes.items) }
-{
-    let script = match read_told(alloc, &bytes)? {
-        Ok(script) => script,
-        Err(told) => return Err(ShowFault::Unread(told)),
-    };
-    drop(bytes);
+    let script = read_told(alloc, reader)?;
     if let Some(member) = window.stranger(script.group) {
         let members = script.group.n();
         return Err(ShowFault::NoMember { member, members });
     }
-    diagram(alloc, &script, window)
+    let text = diagram(alloc, &script, window)?;
+    match write_all(writer, &text) {
+        Ok(()) => Ok(()),
+        Err(Failed) => Err(ShowFault::Program(ProgramFault::Write)),
+    }
 }

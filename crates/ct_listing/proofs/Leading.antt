@@ -112,21 +112,15 @@ play_on old new play w v h adds fits one brace took same = record {
 -- ---- a line that expects a goal
 
 -- an expectation changes nothing
-expected_same : (s t : Played) (goal : Goal) → expected s goal ≡ Ok t → t ≡ s
+expected_taken : (s : Played) (goal : Goal) → is_ok (expected s goal) ≡ true → expected s goal ≡ Ok s
 unfolding expected
-expected_same s t goal e = by_terms (all_known s.rehearsal.setting.members goal) (unmet s goal) e
+expected_taken s goal e = by_terms (all_known s.rehearsal.setting.members goal) (unmet s goal) e
   where
-    by_terms : (known : Result (Unit {0}) LineFault) (first : Option Term) → go_on known (λ _. unless_unmet s first) ≡ Ok t → t ≡ s
-    by_terms (Ok u) None e = cc
+    by_terms : (known : Result (Unit {0}) LineFault) (first : Option Term) → is_ok (go_on known (λ _. unless_unmet s first)) ≡ true →
+        go_on known (λ _. unless_unmet s first) ≡ Ok s
+    by_terms (Ok u) None e = refl
     by_terms (Ok u) (Some term) e = absurd (cc)
     by_terms (Err fault) first e = absurd (cc)
-
-expected_taken : (s : Played) (goal : Goal) → is_ok (expected s goal) ≡ true → expected s goal ≡ Ok s
-expected_taken s goal e = by_result (expected s goal) refl e
-  where
-    by_result : (r : Result Played LineFault) → expected s goal ≡ r → is_ok r ≡ true → r ≡ Ok s
-    by_result (Ok t) same e = ap Ok (expected_same s t goal same)
-    by_result (Err fault) same e = absurd (cc)
 
 goal_on : (old new line : List ℕ) (w : Played) (goal : Goal) → Leads old w → is_utf8 line ≡ true → begins_record line ≡ false →
     one_line line ≡ true → line_of line ≡ Ok (Plays (Expect goal)) → expected w goal ≡ Ok w → new ≡ old ++ (line ++ 10 ∷ []) → Leads new w

@@ -30,40 +30,22 @@ Pieces (word ∷ words) = IsPiece word × Pieces words
 digit_mark : (n : ℕ) → is_mark (digit_glyph false (n % 10)) ≡ true
 digit_mark n = grind (arith, nat_tests)
 
-marks_onto : (k n : ℕ) (acc : List ℕ) → list_all is_mark acc ≡ true → list_all is_mark (digits_onto k 10 false n acc) ≡ true
-marks_onto zero n acc h = h
-marks_onto (suc k) n acc h =
-    let first : list_all is_mark (digit_glyph false (n % 10) ∷ acc) ≡ true = rw (digit_mark n, h) refl in
-    by_end k n acc (eqb (n / 10) 0) first (marks_onto k (n / 10) (digit_glyph false (n % 10) ∷ acc) first)
-  where
-    by_end : (k n : ℕ) (acc : List ℕ) (end : Bool) → list_all is_mark (digit_glyph false (n % 10) ∷ acc) ≡ true →
-        list_all is_mark (digits_onto k 10 false (n / 10) (digit_glyph false (n % 10) ∷ acc)) ≡ true →
-        list_all is_mark (cond end (digit_glyph false (n % 10) ∷ acc)
-        (digits_onto k 10 false (n / 10) (digit_glyph false (n % 10) ∷ acc))) ≡ true
-    by_end k n acc true here later = here
-    by_end k n acc false here later = later
+either : (first : Bool) (word other : Word) → IsPiece word → IsPiece other → IsPiece (cond first word other)
+either true word other h k = h
+either false word other h k = k
 
-some_onto : (k n c : ℕ) (acc : List ℕ) → 0 < length (digits_onto k 10 false n (c ∷ acc))
-some_onto zero n c acc = omega arith
-some_onto (suc k) n c acc = by_end (eqb (n / 10) 0) (some_onto k (n / 10) (digit_glyph false (n % 10)) (c ∷ acc))
-  where
-    by_end : (end : Bool) → 0 < length (digits_onto k 10 false (n / 10) (digit_glyph false (n % 10) ∷ c ∷ acc)) →
-        0 < length (cond end (digit_glyph false (n % 10) ∷ c ∷ acc)
-        (digits_onto k 10 false (n / 10) (digit_glyph false (n % 10) ∷ c ∷ acc)))
-    by_end true later = omega arith
-    by_end false later = later
+digit_first : (n : ℕ) (acc : List ℕ) → list_all is_mark acc ≡ true → IsPiece (digit_glyph false (n % 10) ∷ acc)
+digit_first n acc h = record { some = omega arith; marks = rw (digit_mark n, h) refl }
+
+piece_onto : (k n : ℕ) (acc : List ℕ) → list_all is_mark acc ≡ true → IsPiece (digits_onto (suc k) 10 false n acc)
+piece_onto zero n acc h = either (eqb (n / 10) 0) _ _ (digit_first n acc h) (digit_first n acc h)
+piece_onto (suc k) n acc h =
+    let first = digit_first n acc h in
+    either (eqb (n / 10) 0) _ _ first (piece_onto k (n / 10) (digit_glyph false (n % 10) ∷ acc) first.marks)
 
 pub decimal_piece : (n : ℕ) → IsPiece (decimal n)
 unfolding digits
-decimal_piece n = record {
-  some = by_end (eqb (n / 10) 0) (some_onto 63 (n / 10) (digit_glyph false (n % 10)) []);
-  marks = marks_onto 64 n [] refl;
-}
-  where
-    by_end : (end : Bool) → 0 < length (digits_onto 63 10 false (n / 10) (digit_glyph false (n % 10) ∷ [])) →
-        0 < length (cond end (digit_glyph false (n % 10) ∷ []) (digits_onto 63 10 false (n / 10) (digit_glyph false (n % 10) ∷ [])))
-    by_end true later = omega arith
-    by_end false later = later
+decimal_piece n = piece_onto 63 n [] refl
 
 -- two numbers with such a byte between them
 pub pair_piece : (m c n : ℕ) → is_mark c ≡ true → IsPiece (concat (decimal m ∷ (c ∷ []) ∷ decimal n ∷ []))
@@ -83,20 +65,18 @@ pair_piece m c n e =
 
 -- ---- words
 
-mark_letter : (c : ℕ) → is_mark c ≡ true → is_letter c ≡ true
-mark_letter c e = grind (arith, nat_tests)
-
-marks_letters : (word : Word) → list_all is_mark word ≡ true → list_all is_letter word ≡ true
-marks_letters [] h = refl
-marks_letters (c ∷ cs) h =
-    rw (mark_letter c (both-left (is_mark c) (list_all is_mark cs) h)) (marks_letters cs (both-right (is_mark c) (list_all is_mark cs) h))
+marks_are : (test : ℕ → Bool) → ((c : ℕ) → is_mark c ≡ true → test c ≡ true) → (word : Word) → list_all is_mark word ≡ true →
+    list_all test word ≡ true
+marks_are test each [] h = refl
+marks_are test each (c ∷ cs) h =
+    rw (each c (both-left (is_mark c) (list_all is_mark cs) h)) (marks_are test each cs (both-right (is_mark c) (list_all is_mark cs) h))
 
 piece_word : (word : Word) → IsPiece word → is_word word ≡ true
 piece_word [] h = absurd (omega (arith, h.some))
 piece_word (c ∷ cs) h =
     let mark : is_mark c ≡ true = both-left (is_mark c) (list_all is_mark cs) h.marks in
     let other : eqb c 35 ≡ false = grind (arith, nat_tests) in
-    rw (marks_letters (c ∷ cs) h.marks, other) refl
+    rw (marks_are is_letter (λ d e. grind (arith, nat_tests)) (c ∷ cs) h.marks, other) refl
 
 pieces_words : (words : List Word) → Pieces words → list_all is_word words ≡ true
 pieces_words [] h = refl
@@ -108,13 +88,8 @@ words_back words h = words_from (join_with_byte 32 words) words (joined_reads wo
 
 -- ---- one line
 
-mark_line : (c : ℕ) → is_mark c ≡ true → not (is_feed c) ≡ true
-mark_line c e = grind (arith, nat_tests)
-
 pub marks_line : (word : Word) → list_all is_mark word ≡ true → one_line word ≡ true
-marks_line [] h = refl
-marks_line (c ∷ cs) h =
-    rw (mark_line c (both-left (is_mark c) (list_all is_mark cs) h)) (marks_line cs (both-right (is_mark c) (list_all is_mark cs) h))
+marks_line word h = marks_are (λ c. not (is_feed c)) (λ c e. grind (arith, nat_tests)) word h
 
 pub line_append : (xs ys : List ℕ) → one_line xs ≡ true → one_line ys ≡ true → one_line (xs ++ ys) ≡ true
 line_append xs ys h k = list_all-append (λ c. not (is_feed c)) xs ys ∙ rw (h, k) refl

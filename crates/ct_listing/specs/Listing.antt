@@ -1,16 +1,16 @@
 -- The schedule of a record, by what the input says.
-use Rattle.std.specs.Prelude.{◌≡◌, ℕ, List, Option, Result, Ok, Err, IsOkAnd, ⊤}
+use Rattle.std.specs.Prelude.{◌≡◌, ℕ, List, Option, Result, Ok, IsOkAnd, ⊤}
 use Rattle.std.specs.Io.KnownBytes.{Appends}
 use Rattle.ct_model.specs.Rehearsal.{Rehearsal}
-use Rattle.ct_streams.specs.Streams.{WritesPart, read_part}
+use Rattle.ct_streams.specs.Streams.{WritesPart}
 use Rattle.ct_records.specs.declared.program_fault.ProgramFault.{ProgramFault}
-use Rattle.ct_records.specs.declared.program_fault.ProgramFault.TheVariants.{Replay, Reader, Write, Memory}
+use Rattle.ct_records.specs.declared.program_fault.ProgramFault.TheVariants.{Replay, Write, Memory}
 use Rattle.ct_records.specs.declared.read_fault.ReadFault.{ReadFault}
 use Rattle.ct_records.specs.Replay.{IsAllowed, IsRefused}
 use Rattle.ct_records.specs.Script.{script}
 use Rattle.ct_told.specs.declared.show_fault.ShowFault.{ShowFault}
-use Rattle.ct_told.specs.declared.show_fault.ShowFault.TheVariants.{NoMember, TooManySteps, Unread, Program}
-use Rattle.ct_told.specs.NoRecords.{IsToldOf}
+use Rattle.ct_told.specs.declared.show_fault.ShowFault.TheVariants.{Program}
+use Rattle.ct_told.specs.NoRecords.{IsUnread}
 use Rattle.ct_judging.specs.Schedule.{schedule}
 
 -- the steps of the record are allowed, and of this schedule the judge makes the same record
@@ -32,20 +32,8 @@ WritesSchedule read old new = IsOkAnd read (λ w. (text : List ℕ) × IsSchedul
 abbrev pub WritesScheduleInPart : Result Rehearsal ReadFault → Option (List ℕ) → Option (List ℕ) → Type 0
 WritesScheduleInPart read old new = IsOkAnd read (λ w. (text : List ℕ) × IsScheduleOf w text × WritesPart old new text)
 
--- the same of the bytes that were read
-abbrev pub IsScheduleIn : Result Rehearsal ReadFault → List ℕ → Type 0
-IsScheduleIn read text = IsOkAnd read (λ w. IsScheduleOf w text)
-
--- the fault is that of reading, or of the record's steps
-abbrev pub IsOfListing : ShowFault → List ℕ → Type 0
-IsOfListing (NoMember member members) bytes = ⊥
-IsOfListing (TooManySteps steps) bytes = ⊥
-IsOfListing (Unread told) bytes = IsToldOf told bytes
-IsOfListing (Program Memory) bytes = ⊤
-IsOfListing (Program fault) bytes = IsOkAnd (script bytes) (IsRefusal fault)
-
 -- the input is no record, or one of its steps is refused. Of streams and of memory nothing is said
 abbrev pub FailsOn : ShowFault → List ℕ → Type 0
-FailsOn (Program Reader) input = ⊤
+FailsOn (Program (Replay at refusal)) input = IsOkAnd (script input) (λ w. IsRefused w at refusal)
 FailsOn (Program Write) input = ⊤
-FailsOn fault input = IsOfListing fault (read_part input)
+FailsOn fault input = IsUnread fault input

@@ -1,13 +1,13 @@
 //! A record in, its schedule out.
 
-ghost use Rattle.std.specs.Prelude.{◌≡◌, ◌≢◌, ◌<◌, ◌^◌, Err, IfOk, IfErr, IfSome, OnOk};
+ghost use Rattle.std.specs.Prelude.{◌≡◌, ◌≢◌, ◌<◌, ◌^◌, Err, IfErr, IfSome, OnOk};
 ghost use Rattle.ct_streams.specs.Streams.{FailsOnce};
 ghost use Rattle.ct_records.specs.Script.{script};
-ghost use Rattle.ct_listing.specs.Listing.{FailsOn, IsOfListing, IsScheduleIn, WritesSchedule, WritesScheduleInPart};
+ghost use Rattle.ct_listing.specs.Listing.{FailsOn, WritesSchedule, WritesScheduleInPart};
 
 use crate::writing::schedule_of;
 use ct_records::ProgramFault;
-use ct_streams::{Failed, Sink, Source, read_all, write_all};
+use ct_streams::{Failed, Sink, Source, write_all};
 use ct_told::{ShowFault, read_told};
 use std::alloc::Global;
 
@@ -32,23 +32,10 @@ pub fn write_schedule<R: Source, W: Sink>(
     // Nothing was written but where the writer failed.
     ensures quiet { IfErr result (λ fault. fault ≢ ShowFault.Program ProgramFault.Write → writer.new ≡ writer.old) }
 {
-    let bytes = read_all(alloc, reader)?;
-    let text = listed(alloc, bytes)?;
+    let script = read_told(alloc, reader)?;
+    let text = schedule_of(alloc, &script)?;
     match write_all(writer, &text) {
         Ok(()) => Ok(()),
         Err(Failed) => Err(ShowFault::Program(ProgramFault::Write)),
     }
-}
-
-// The schedule of the record, whose bytes are freed before it is made.
-fn listed(alloc: Global, bytes: Vec<u8>) -> Result<Vec<u8>, ShowFault>
-    ensures ok { IfOk result (λ text. IsScheduleIn (script bytes.items) text.items) }
-    ensures fault { IfErr result (λ fault. IsOfListing fault bytes.items) }
-{
-    let script = match read_told(alloc, &bytes)? {
-        Ok(script) => script,
-        Err(told) => return Err(ShowFault::Unread(told)),
-    };
-    drop(bytes);
-    Ok(schedule_of(alloc, &script)?)
 }

@@ -1,9 +1,10 @@
 //! From a record to its schedule.
 
-ghost use Rattle.std.specs.Prelude.{◌≡◌, [], length, Ok, IfOk, IfErr, OnOk, string_bytes};
+ghost use Rattle.std.specs.Prelude.{◌≡◌, ◌++◌, ◌∷◌, [], length, None, Ok, IfOk, IfErr, OnOk, string_bytes};
 ghost use Rattle.ct_world.specs.Replay.{AllowsFirst};
 ghost use Rattle.ct_world.specs.Setup.{record_of, setting_of};
 ghost use Rattle.ct_records.specs.Replay.{IsAllowed};
+ghost use Rattle.ct_records.specs.Text.{record_text};
 ghost use Rattle.ct_records.specs.View.{rehearsal_of};
 ghost use Rattle.ct_play.specs.Faults.{IsShort};
 ghost use Rattle.ct_grammar.specs.Sides.{whole};
@@ -19,7 +20,7 @@ use crate::lines::push_step;
 use ct_grammar::Goal;
 use ct_model::Step;
 use ct_play::{LineFault, Stage};
-use ct_records::{ProgramFault, Script};
+use ct_records::{ProgramFault, Script, write_record};
 use ct_world::{Setup, World};
 use std::alloc::Global;
 
@@ -29,7 +30,7 @@ pub fn schedule_of(alloc: Global, script: &Script) -> Result<Vec<u8>, ProgramFau
     ensures ok { IfOk result (λ text. IsScheduleOf (rehearsal_of script.now) text.items) }
     ensures err { IfErr result (λ fault. IsRefusal fault (rehearsal_of script.now)) }
 {
-    replay(alloc, script)?;
+    drop(replay(alloc, script)?);
     match written(alloc, script.setup(), &script.steps) {
         Ok(text) => Ok(text.into_bytes()),
         Err(_) => Err(ProgramFault::Memory),
@@ -47,26 +48,37 @@ pub fn schedule_expecting(
     ensures ok { IfOk result (λ text. IsExpectingOf goal.now (rehearsal_of script.now) text.items) }
     ensures err { IfErr result (λ fault. IsRefusal fault (rehearsal_of script.now)) }
 {
-    replay(alloc, script)?;
+    drop(replay(alloc, script)?);
     match expecting(alloc, script.setup(), &script.steps, goal) {
         Ok(text) => Ok(text.into_bytes()),
         Err(_) => Err(ProgramFault::Memory),
     }
 }
 
-/// Whether the steps of the record are allowed.
-pub fn replay(alloc: Global, script: &Script) -> Result<(), ProgramFault>
-    ensures ok { OnOk result (IsAllowed (rehearsal_of script.now)) }
+/// The world that the steps of the record lead to, which are all allowed, or the fault of the first that is refused.
+pub fn replay(alloc: Global, script: &Script) -> Result<World, ProgramFault>
+    ensures ok { IfOk result (λ world. world ≡ record { rehearsal = rehearsal_of script.now; prepared = None }) }
+    ensures allowed { OnOk result (IsAllowed (rehearsal_of script.now)) }
     ensures err { IfErr result (λ fault. IsRefusal fault (rehearsal_of script.now)) }
 {
-    World::replay(
+    let (world, _board) = World::replay(
         alloc,
         script.group,
         script.cells,
         script.batch,
         &script.steps,
     )?;
-    Ok(())
+    Ok(world)
+}
+
+/// The record of the world and a line feed.
+pub fn record_line(alloc: Global, world: &World) -> Result<Vec<u8>, ProgramFault>
+    ensures text { IfOk result (λ text. text.items ≡ record_text world.now.rehearsal ++ 10 ∷ []) }
+    ensures err { IfErr result (λ fault. fault ≡ ProgramFault.Memory) }
+{
+    let mut text = write_record(alloc, world)?;
+    text.push(b'\n')?;
+    Ok(text)
 }
 
 // The schedule of these steps, which are all allowed.

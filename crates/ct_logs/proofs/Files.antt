@@ -39,8 +39,7 @@ module _ {X : Type 0} (bytes : Known) (f : X → List ℕ) (names : List X) (i :
       IsTextIn bytes (f (get_or names i d)) text.items → new ≡ texts ++ text ∷ [] →
       AreTextsIn bytes (map f (take (i + 1) names)) (texts_of new)
   texts_more texts new text all here is =
-      let pushed : texts_of new ≡ texts_of texts ++ text.items ∷ [] =
-      ap texts_of is ∙ map_push (λ (v : Vec ℕ). v.items) texts text in
+      let pushed : texts_of new ≡ texts_of texts ++ text.items ∷ [] = ap texts_of is ∙ map_push (λ (v : Vec ℕ). v.items) texts text in
       subst (λ l. AreTextsIn bytes l (texts_of new)) (sym (map_more f names i d lt))
       (subst (λ l. AreTextsIn bytes (map f (take i names) ++ f (get_or names i d) ∷ []) l) (sym pushed)
       (AllZip-push (IsTextIn bytes) (map f (take i names)) (texts_of texts) (f (get_or names i d)) text.items all here))

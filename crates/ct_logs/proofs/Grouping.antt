@@ -4,13 +4,14 @@ use Rattle.std.proofs.Common.{arith}
 use Rattle.std.specs.Prelude.{map, unwrap_or}
 use Rattle.std.proofs.lemmas.Bool.{cases_eq}
 use Rattle.ct_names.specs.Group.{is_member}
+use Rattle.ct_names.proofs.Groups.{member_from_one, member_to_n}
 use Rattle.ct_world.specs.declared.setup.Setup.{Setup}
 use Rattle.ct_merge.specs.Proposers.{line_in}
 use Rattle.ct_merge.specs.declared.numbers.Numbers.{Numbers}
 use Rattle.ct_logs.specs.Groups.{AreLogsIn, HasNothing, HasSaid, IsGroupOf, IsLast, IsNumber, Logs, NoneGives}
 use Rattle.ct_logs.specs.Owners.{IsSaid, Said}
 use Rattle.ct_logs.specs.Sets.{AreLogsOf, HasTaken, IsGivenIn, IsSetupOf, LogsSoFar, slot}
-use Rattle.ct_logs.proofs.Taking.{is_member_at, member_from, member_to, one_said, said_within}
+use Rattle.ct_logs.proofs.Taking.{is_member_at, one_said, said_within}
 
 none_or : (o : Option ℕ) → ((m : ℕ) → o ≡ Some m → ⊥) → o ≡ None
 none_or None h = refl
@@ -33,12 +34,10 @@ module _ (texts : List (List ℕ)) (number : Numbers → Option ℕ) (given : Op
 
     all_give : (n usual : ℕ) → n ≡ unwrap_or given usual → (i : ℕ) (said : Said) (m : ℕ) → IsSaid texts i said →
         number said.log.numbers ≡ Some m → n ≡ m
-    all_give n usual is i said m at gives =
-        is ∙ ap (λ o. unwrap_or o usual) (whole.each i said m (said_within texts i said at) at gives)
+    all_give n usual is i said m at gives = is ∙ ap (λ o. unwrap_or o usual) (whole.each i said m (said_within texts i said at) at gives)
 
     number_of : (n usual : ℕ) → n ≡ unwrap_or given usual → IsNumber texts number n usual
-    number_of n usual is =
-        record { all = all_give n usual is; none = λ none. is ∙ ap (λ o. unwrap_or o usual) (not_given none) }
+    number_of n usual is = record { all = all_give n usual is; none = λ none. is ∙ ap (λ o. unwrap_or o usual) (not_given none) }
 
 number_back : (texts : List (List ℕ)) (number : Numbers → Option ℕ) (given : Option ℕ) → IsGivenIn texts (length texts) number given →
     (n usual : ℕ) → IsNumber texts number n usual → n ≡ unwrap_or given usual
@@ -102,7 +101,7 @@ module _ (texts : List (List ℕ)) (s : LogsSoFar) (setup : Setup) (all : HasTak
           let w = all.last.is other in
           let l = group.each w.0 w.2 in
           let same : l.said ≡ w.1 = one_said texts w.0 l.said w.1 l.is w.3 in
-          member_to setup.group s.last
+          member_to_n setup.group s.last
           (subst (λ p. is_member setup.group p ≡ true) (ap (λ (x : Said). x.member) same ∙ w.4) l.member)
     ]
 
@@ -151,7 +150,7 @@ module _ (texts : List (List ℕ)) (s : LogsSoFar) (logs : Logs) (all : HasTaken
   has_nothing : (p : ℕ) → is_member logs.setup.group p ≡ true →
       ((i : ℕ) (said : Said) → IsSaid texts i said → said.member ≡ p → ⊥) → HasNothing logs p
   has_nothing p member none =
-      let from : 1 ≤ p = member_from logs.setup.group p member in
+      let from : 1 ≤ p = member_from_one logs.setup.group p member in
       let bare = all.others p from (λ i filed. let f = all.files p i from filed in none i f.said f.is f.member) in
       record {
         lines = are.lines p member ∙ ap (map (line_in logs.setup.group)) bare.lines;

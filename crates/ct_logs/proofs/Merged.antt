@@ -23,21 +23,18 @@ use Rattle.ct_merge.specs.declared.stopped_lines.StoppedLines.{StoppedLines}
 use Rattle.ct_merge.specs.declared.verdict.Culprit.{Culprit}
 use Rattle.ct_merge.specs.declared.verdict.Verdict.{Verdict}
 use Rattle.ct_merge.specs.declared.verdict.Verdict.TheVariants.{Accepted, Refused, Cut, Limited}
-use Rattle.ct_merge.specs.declared.verdict.Why.{Why}
-use Rattle.ct_merge.specs.declared.verdict.Why.TheVariants.{Fault, Never, Ended, Circle}
+use Rattle.ct_presume.proofs.GoingOn.{cut_ended, cut_none}
 use Rattle.ct_logs.specs.Files.{AreTextsIn, IsTooLong, Known}
 use Rattle.ct_logs.specs.Groups.{AreLogsIn, AreNoLogs, HaveLogs, HaveNoLogs, Logs}
 use Rattle.ct_logs.specs.Judging.{AreMet, AreUnmet, EndsAs, EndsWith, GoOn, IsFaultOf, IsHaltFault, IsJudged, IsJudgedOf, IsMergeOf}
 use Rattle.ct_logs.specs.Judging.{IsOpening, IsOpeningOf, IsRunOf, IsUnmetBy, IsUnmetFault, IsUnmetRun, IsVerdictOf, logs_in}
-use Rattle.ct_logs.specs.Merged.{IsFaultAt, IsFaultBy, IsFaultIn, IsInputTwice, IsRunIn, IsSomeMerge, IsSomeRun, IsTextOfOne}
+use Rattle.ct_logs.specs.Merged.{IsFaultIn, IsRunIn, IsSomeMerge, IsSomeRun, IsTextOfOne}
 use Rattle.ct_logs.specs.Sets.{AreFirstLines, HasTaken, IsSetupOf, LogsSoFar}
 use Rattle.ct_logs.specs.Silence.{IsNoLogs, IsSilent}
 use Rattle.ct_logs.specs.declared.form.Form.{Form}
 use Rattle.ct_logs.specs.declared.judged.Judged.{Judged}
 use Rattle.ct_logs.specs.declared.merge_fault.MergeFault.{MergeFault}
 use Rattle.ct_logs.specs.declared.merge_fault.MergeFault.TheVariants as faults
-use Rattle.ct_logs.specs.declared.way.Way.{Way}
-use Rattle.ct_logs.specs.declared.way.Way.TheVariants as ways
 use Rattle.ct_logs.proofs.Grouping.{logs_of, setup_back}
 use Rattle.ct_logs.proofs.Telling.{no_logs_for, silent_no_logs}
 use Rattle.ct_logs.proofs.Slots.{expected_in_first, log_in_first, own_lines, take_both}
@@ -47,17 +44,13 @@ use Rattle.ct_logs.proofs.Slots.{expected_in_first, log_in_first, own_lines, tak
 -- a merge of these logs is one of some
 pub some_merge : (v : Verdict) (logs : List (Vec LogLine)) → IfAccepted v (λ w. IsMerge w logs) → IfAccepted v IsSomeMerge
 some_merge (Accepted world) logs h = (logs, h)
-some_merge (Refused culprit) logs h = tt
-some_merge (Cut culprit) logs h = tt
-some_merge (Limited culprit) logs h = tt
+some_merge _ logs h = tt
 
 -- the text of a run that is accepted, of some logs
 pub some_text : (form : Form) (v : Verdict) (expected : List Expecting) (text : List ℕ) → IfAccepted v IsSomeMerge →
     EndsWith form v expected text → IsTextOfOne IsSomeRun form text
 some_text form (Accepted world) expected text merge ends = (world.rehearsal, (ends.1.0, merge), ends.1.1)
-some_text form (Refused culprit) expected text merge ends = absurd ends.1
-some_text form (Cut culprit) expected text merge ends = absurd ends.1
-some_text form (Limited culprit) expected text merge ends = absurd ends.1
+some_text form _ expected text merge ends = absurd ends.1
 
 -- ---- runs of first lines
 
@@ -81,8 +74,7 @@ taken_opens w lines t same taken = subst (λ v. IsOpening v lines) (sym same) (�
 
 -- logs stand where first lines of these do
 abbrev pub StandAt : Setup → List (Vec LogLine) → StoppedLines → Type 0
-StandAt setup more lines =
-    (first : List (Vec LogLine)) × AreFirstLines first more × AreStopped (setting_of setup) setup.cells first lines
+StandAt setup more lines = (first : List (Vec LogLine)) × AreFirstLines first more × AreStopped (setting_of setup) setup.cells first lines
 
 pub stand_own : (setup : Setup) (lines : List (Vec LogLine)) (o : Option StoppedLines) →
     IfSome o (AreStopped (setting_of setup) setup.cells lines) → IfSome o (StandAt setup lines)
@@ -96,22 +88,10 @@ stand_first r setup first more are h =
     IfOk-weaker r _ _ (λ judged stopped. IfSome_then judged.stopped stopped (λ lines is. (first, are, is))) h
 
 -- the reason of a line says which verdict it is
-module _ (c : Culprit) where
-  cut_by : (ends limits : Bool) → Cut c ≡ (if ends then Cut c else if limits then Limited c else Refused c) → ends ≡ true
-  cut_by true limits e = refl
-  cut_by false true e = absurd (cc)
-  cut_by false false e = absurd (cc)
-
-  limited_by : (ends limits : Bool) → Limited c ≡ (if ends then Cut c else if limits then Limited c else Refused c) → limits ≡ true
-  limited_by true limits e = absurd (cc)
-  limited_by false true e = refl
-  limited_by false false e = absurd (cc)
-
-ended_waits : (why : Why) → is_ended why ≡ true → is_wait why ≡ true
-ended_waits (Fault fault) e = absurd (cc)
-ended_waits (Never q) e = refl
-ended_waits (Ended q) e = refl
-ended_waits Circle e = refl
+limited_by : (c : Culprit) (ends limits : Bool) → Limited c ≡ (if ends then Cut c else if limits then Limited c else Refused c) →
+    limits ≡ true
+limited_by c false true e = refl
+limited_by c _ _ e = absurd (cc)
 
 -- what is known of a verdict on these lines of the group, of which those that it accepts are more
 pub record ComesTo (setup : Setup) (lines more : List (Vec LogLine)) (v : Verdict) : Type 0 where
@@ -125,21 +105,15 @@ pub record ComesTo (setup : Setup) (lines more : List (Vec LogLine)) (v : Verdic
 
 module _ (presumes : Bool) (logs : Logs) (more : List (Vec LogLine)) (go_on : GoOn presumes logs.lines more) where
   verdict_as : (v : Verdict) → ComesTo logs.setup logs.lines more v → IsVerdictOf presumes logs v
-  verdict_as (Accepted world) is =
-      record { setting = is.setting; cells = is.cells; lines = more; go_on = go_on; merged = is.merged }
+  verdict_as (Accepted world) is = record { setting = is.setting; cells = is.cells; lines = more; go_on = go_on; merged = is.merged }
   verdict_as (Refused culprit) is = is.refused
   verdict_as (Cut culprit) is =
-      let ends : is_ended culprit.why ≡ true = cut_by culprit (is_ended culprit.why) (is_limit culprit.why) is.told in
       record {
-        stands = record { culprit = culprit; is = is.culprit; why = ends };
-        none = is.none (ended_waits culprit.why ends);
+        stands = record { culprit = culprit; is = is.culprit; why = cut_ended culprit is.told };
+        none = cut_none (setting_of logs.setup) logs.lines culprit is.told is.none;
       }
   verdict_as (Limited culprit) is =
-      record {
-        culprit = culprit;
-        is = is.culprit;
-        why = limited_by culprit (is_ended culprit.why) (is_limit culprit.why) is.told;
-      }
+      record { culprit = culprit; is = is.culprit; why = limited_by culprit (is_ended culprit.why) (is_limit culprit.why) is.told }
 
   lines_as : (o : Option StoppedLines) → IfSome o (StandAt logs.setup more) →
       IfSome o (λ lines. IsOpeningOf presumes logs lines.run.rehearsal)
@@ -219,12 +193,9 @@ module _ (presumes : Bool) (logs : Logs) where
     run_text : (form : Form) (v : Verdict) (text : List ℕ) → IsVerdictOf presumes logs v → EndsWith form v expected text →
         IsTextOfOne (IsRunOf presumes logs) form text
     run_text form (Accepted world) text is ends =
-        let met : AreMet world.rehearsal logs.expected =
-        subst (AreMet world.rehearsal) (listed world.rehearsal is.setting) ends.0 in
+        let met : AreMet world.rehearsal logs.expected = subst (AreMet world.rehearsal) (listed world.rehearsal is.setting) ends.0 in
         (world.rehearsal, record { lawful = ends.1.0; merged = is; met = met }, ends.1.1)
-    run_text form (Refused culprit) text is ends = absurd ends.1
-    run_text form (Cut culprit) text is ends = absurd ends.1
-    run_text form (Limited culprit) text is ends = absurd ends.1
+    run_text form _ text is ends = absurd ends.1
 
     unmet_run : (w : Rehearsal) → IsOpeningOf presumes logs w → IsUnmetRun w expected → AreUnmet presumes logs
     unmet_run w opens h =
@@ -234,12 +205,8 @@ module _ (presumes : Bool) (logs : Logs) where
     unmet_by : (v : Verdict) (o : Option StoppedLines) → IsVerdictOf presumes logs v →
         IfSome o (λ lines. IsOpeningOf presumes logs lines.run.rehearsal) → IsUnmetBy v o expected → AreUnmet presumes logs
     unmet_by (Accepted world) o is opens h = unmet_run world.rehearsal (merge_opens world.rehearsal is) h
-    unmet_by (Refused culprit) None is opens h = absurd h
-    unmet_by (Refused culprit) (Some lines) is opens h = unmet_run lines.run.rehearsal opens h
-    unmet_by (Cut culprit) None is opens h = absurd h
-    unmet_by (Cut culprit) (Some lines) is opens h = unmet_run lines.run.rehearsal opens h
-    unmet_by (Limited culprit) None is opens h = absurd h
-    unmet_by (Limited culprit) (Some lines) is opens h = unmet_run lines.run.rehearsal opens h
+    unmet_by _ None is opens h = absurd h
+    unmet_by _ (Some lines) is opens h = unmet_run lines.run.rehearsal opens h
 
     module _ (R : Type 0) (such : Logs → Type 0) (are : such logs) where
       silent_as : (fault : MergeFault) → IsSilent fault → IsFaultOf R such presumes fault
@@ -254,8 +221,7 @@ module _ (presumes : Bool) (logs : Logs) where
 
       unmet_as : (judged : Judged) → IsJudged presumes logs judged → (fault : MergeFault) → IsUnmetFault judged expected fault →
           IsFaultOf R such presumes fault
-      unmet_as judged is (faults.Refused text) h =
-          (logs, are, inr (unmet_by judged.verdict judged.stopped is.verdict is.lines h))
+      unmet_as judged is (faults.Refused text) h = (logs, are, inr (unmet_by judged.verdict judged.stopped is.verdict is.lines h))
       unmet_as judged is fault h = silent_as fault h
 
       fault_as : (judged : Judged) → IsJudged presumes logs judged → (fault : MergeFault) → EndsAs judged expected fault →
@@ -311,16 +277,3 @@ pub files_too_long : (bytes : Known) (names : List (List ℕ)) (presumes : Bool)
 files_too_long bytes names presumes fault h =
     no_logs_as (IsTooLong bytes names ⊎ HaveNoLogs bytes names) (HaveLogs bytes names) presumes fault
     (no_logs_for (IsTooLong bytes names) (IsTooLong bytes names ⊎ HaveNoLogs bytes names) fault (λ long. inl long) h)
-
--- a fault of files is never that standard input is named twice
-pub files_once : (bytes : Known) (names : List (List ℕ)) (presumes : Bool) (fault : MergeFault) →
-    IsFaultIn bytes names presumes fault → IsFaultAt bytes names presumes fault
-files_once bytes names presumes faults.Twice h = absurd h
-files_once bytes names presumes fault h = h
-
--- that it is, is one in each way
-pub input_twice : {P : Type 0} (bytes : Known) (names : List (List ℕ)) (way : Way P) → IsInputTwice names →
-    IsFaultBy bytes names way faults.Twice
-input_twice bytes names ways.Once h = h
-input_twice bytes names (ways.Follow pace) h = tt
-input_twice bytes names ways.Presume h = h

@@ -56,8 +56,7 @@ module _ (w : Rehearsal) (listed expected : List Expecting) (n : ℕ) (list : li
 
   -- where nothing is expected, all is met
   pub met_none : All (λ (x : Expecting). x.list ≡ []) listed → AreMet w (take w.setting.members expected)
-  met_none none p member =
-      none_holds w p _ (ap (λ l. expected_of l p) (sym all_listed) ∙ no_list listed none p)
+  met_none none p member = none_holds w p _ (ap (λ l. expected_of l p) (sym all_listed) ∙ no_list listed none p)
 
   -- what is met in the record of a world is so of what its set expects
   pub met_in : (setup : Setup) (steps : List Step) → setting_of setup ≡ w.setting → setup.cells ≡ w.cells → steps ≡ w.steps →

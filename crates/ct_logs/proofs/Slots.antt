@@ -17,14 +17,12 @@ use Rattle.ct_logs.specs.Sets.{AreFirstLines, file_in}
 -- ---- files
 
 pub filed_by : (kept : Option (Option ℕ)) (file : ℕ) → file_in kept ≡ Some file → kept ≡ Some (Some file)
-filed_by None file h = absurd (cc)
-filed_by (Some None) file h = absurd (cc)
 filed_by (Some (Some other)) file h = ap Some h
+filed_by _ file h = absurd (cc)
 
 pub not_filed : (kept : Option (Option ℕ)) (file : ℕ) → file_in kept ≡ None → kept ≡ Some (Some file) → ⊥
-not_filed None file h at = cc
 not_filed (Some None) file h at = cc
-not_filed (Some (Some other)) file h at = cc
+not_filed _ file h at = cc
 
 -- ---- first ones
 
@@ -57,8 +55,7 @@ slice_get-set_other (x ∷ xs) (suc i) (suc k) item other = slice_get-set_other 
 
 module _ (logs : List (Vec LogLine)) (i p : ℕ) where
   pub log_at : (d : Vec LogLine) → p - 1 ≡ i → i < length logs → log_of logs p ≡ (get_or logs i d).items
-  log_at d at lt =
-      ap (λ o. option_map_or (λ (log : Vec LogLine). log.items) o []) (ap (slice_get logs) at ∙ slice_get-get_or logs i d lt)
+  log_at d at lt = ap (λ o. option_map_or (λ (log : Vec LogLine). log.items) o []) (ap (slice_get logs) at ∙ slice_get-get_or logs i d lt)
 
   pub log_set_here : (log : Vec LogLine) → p - 1 ≡ i → i < length logs → log_of (set logs i log) p ≡ log.items
   log_set_here log at lt =
@@ -68,8 +65,7 @@ module _ (logs : List (Vec LogLine)) (i p : ℕ) where
       ap (λ o. option_map_or (λ (l : Vec LogLine). l.items) o []) (ap (slice_get (set logs i log)) at ∙ there)
 
   pub log_set_other : (log : Vec LogLine) → p - 1 ≢ i → log_of (set logs i log) p ≡ log_of logs p
-  log_set_other log other =
-      ap (λ o. option_map_or (λ (l : Vec LogLine). l.items) o []) (slice_get-set_other logs i (p - 1) log other)
+  log_set_other log other = ap (λ o. option_map_or (λ (l : Vec LogLine). l.items) o []) (slice_get-set_other logs i (p - 1) log other)
 
 pub log_past : (logs : List (Vec LogLine)) (p : ℕ) → length logs ≤ p - 1 → log_of logs p ≡ []
 log_past logs p past = ap (λ o. option_map_or (λ (log : Vec LogLine). log.items) o []) (slice_get_past logs (p - 1) past)

@@ -6,6 +6,7 @@ use Rattle.std.proofs.lemmas.Bool.{cases_eq, cases_lt}
 use Rattle.std.proofs.lemmas.Bool.Decides.{nat_tests}
 use Rattle.std.proofs.lemmas.Option.{option_and_then_some, slice_get_within}
 use Rattle.ct_names.specs.Group.{is_member}
+use Rattle.ct_names.proofs.Groups.{member_from_one, member_to_n}
 use Rattle.ct_model.specs.When.{when}
 use Rattle.ct_world.specs.declared.setup.Setup.{Setup}
 use Rattle.ct_merge.specs.declared.numbers.Numbers.{Numbers}
@@ -18,8 +19,7 @@ use Rattle.ct_logs.specs.declared.group_numbers.GroupNumbers.{GroupNumbers}
 -- ---- what a text says
 
 pub said_within : (texts : List (List ℕ)) (i : ℕ) (said : Said) → IsSaid texts i said → i < length texts
-said_within texts i said is =
-    option_and_then_some (said_in i) (slice_get texts i) said is (λ text at e. slice_get_within texts i text at)
+said_within texts i said is = option_and_then_some (said_in i) (slice_get texts i) said is (λ text at e. slice_get_within texts i text at)
 
 pub one_said : (texts : List (List ℕ)) (i : ℕ) (said other : Said) → IsSaid texts i said → IsSaid texts i other → said ≡ other
 one_said texts i said other a b =
@@ -27,12 +27,6 @@ one_said texts i said other a b =
     cc
 
 -- ---- members
-
-pub member_from : (n p : ℕ) → is_member n p ≡ true → 1 ≤ p
-member_from n p e = grind (arith, nat_tests)
-
-pub member_to : (n p : ℕ) → is_member n p ≡ true → p ≤ n
-member_to n p e = grind (arith, nat_tests)
 
 pub is_member_at : (n p : ℕ) → 1 ≤ p → p ≤ n → is_member n p ≡ true
 is_member_at n p a b = grind (arith, nat_tests)
@@ -128,10 +122,7 @@ taken_none texts s numbers last files bare = record {
   cells = given_none texts _ _ (ap (λ (n : GroupNumbers). n.cells) numbers);
   batch = given_none texts _ _ (ap (λ (n : GroupNumbers). n.batch) numbers);
   some = omega (arith, last);
-  last = record {
-    within = λ i said lt is. absurd (omega (arith, lt));
-    is = λ ne. absurd (ne last);
-  };
+  last = record { within = λ i said lt is. absurd (omega (arith, lt)); is = λ ne. absurd (ne last) };
 }
 
 -- ---- one text more
@@ -140,8 +131,7 @@ module _ (texts : List (List ℕ)) (k : ℕ) (old new : LogsSoFar) (d : Said) (i
     (took : Takes old k d new) where
   other_member : (i : ℕ) → i < k → (t : IsTakenAt texts old i) → t.said.member ≢ d.member
   other_member i lt t same =
-      let e : i ≡ k =
-      took.claims.open_to.free i (subst (λ p. slot old.files p ≡ Some (Some i)) same t.filed) in
+      let e : i ≡ k = took.claims.open_to.free i (subst (λ p. slot old.files p ≡ Some (Some i)) same t.filed) in
       omega (arith, e, lt)
 
   kept : (i : ℕ) → i < k → IsTakenAt texts new i
@@ -192,10 +182,7 @@ module _ (texts : List (List ℕ)) (k : ℕ) (old new : LogsSoFar) (d : Said) (i
     | inl same ↦ absurd (none k (subst (λ q. slot new.files q ≡ Some (Some k)) (sym same) took.claims.filed))
     | inr other ↦
         let b = before.others p from (λ i f. none i (took.claims.others p from other ∙ f)) in
-        record {
-          lines = took.other_lines p from other ∙ b.lines;
-          expected = took.other_expected p from other ∙ b.expected;
-        }
+        record { lines = took.other_lines p from other ∙ b.lines; expected = took.other_expected p from other ∙ b.expected }
   ]
 
   last_within : (i : ℕ) (said : Said) → i < k + 1 → IsSaid texts i said → said.member ≤ new.last
@@ -255,10 +242,10 @@ module _ (texts : List (List ℕ)) (k : ℕ) (s : LogsSoFar) (setup : Setup) (be
           record {
             few = omega (arith, group.few);
             open_to = record {
-              some = member_from setup.group l.said.member l.member;
-              most = omega (arith, member_to setup.group l.said.member l.member, group.most);
+              some = member_from_one setup.group l.said.member l.member;
+              most = omega (arith, member_to_n setup.group l.said.member l.member, group.most);
               free = λ other filed.
-                  let f = before.files l.said.member other (member_from setup.group l.said.member l.member) filed in
+                  let f = before.files l.said.member other (member_from_one setup.group l.said.member l.member) filed in
                   group.once other k f.said l.said f.is l.is f.member;
             };
             numbers = record { members = members.0; cells = cells.0; batch = batch.0 };

@@ -1,18 +1,14 @@
 -- Faults of texts that are no logs, and what texts say.
 use Rattle.std.proofs.Common.{◌≡◌, ℕ, ◌+◌, ◌<◌, List, get_or, length, Result, Ok, Err, Some, None, false, true}
 use Rattle.std.proofs.Common.{ap, refl, subst, sym, ◌∙◌}
-use Rattle.std.specs.Prelude.{⊤, if◌then◌else◌, Bool, option_and_then, option_map, slice_get}
+use Rattle.std.specs.Prelude.{if◌then◌else◌, Bool, option_and_then, option_map, slice_get}
 use Rattle.std.specs.Global.{Vec}
 use Rattle.std.proofs.lemmas.Option.{slice_get-get_or, slice_get-map}
 use Rattle.ct_logs.specs.Files.{texts_of}
 use Rattle.ct_logs.specs.Sets.{CanTake, LogsSoFar}
-use Rattle.ct_merge.specs.Texts.{IsFaultIn, LogSoFar, Unread}
-use Rattle.ct_merge.specs.declared.log_fault.LogFault.{LogFault}
-use Rattle.ct_merge.specs.declared.log_fault.LogFault.TheVariants.{Line, Memory}
-use Rattle.ct_merge.specs.declared.entry.NoEntry.{NoEntry}
-use Rattle.ct_merge.specs.declared.entry.NoEntry.TheVariants.{Other}
-use Rattle.ct_logs.specs.Owners.{Said, is_record, log_for, or_other, said_at, said_for, said_in, said_of}
-use Rattle.ct_logs.specs.Silence.{IsNoLogs, IsOfLogFault, IsSilent}
+use Rattle.ct_merge.specs.Texts.{LogSoFar, Unread}
+use Rattle.ct_logs.specs.Owners.{Said, is_record, log_for, said_at, said_for, said_in, said_of}
+use Rattle.ct_logs.specs.Silence.{IsNoLogs, IsSilent}
 use Rattle.ct_logs.specs.declared.merge_fault.MergeFault.{MergeFault}
 use Rattle.ct_logs.specs.declared.merge_fault.MergeFault.TheVariants as faults
 
@@ -24,12 +20,6 @@ no_logs_for R S fault f h = h
 pub silent_no_logs : (R : Type 0) (fault : MergeFault) → IsSilent fault → IsNoLogs R fault
 silent_no_logs R (faults.NoLogs text) h = absurd h
 silent_no_logs R fault h = h
-
--- the fault of a text that is no log
-pub log_fault_tells : (R : Type 0) (r : Result LogSoFar Unread) (fault : LogFault) (told : MergeFault) →
-    ((unread : Unread) → r ≡ Err unread → R) → IsFaultIn r fault → IsOfLogFault fault told → IsNoLogs R told
-log_fault_tells R r (Line at why) told reason is h = no_logs_for ⊤ R told (λ _. reason (record { at = at; why = why }) is) h
-log_fault_tells R r Memory told reason is h = silent_no_logs R told h
 
 -- ---- what a text says
 
@@ -62,18 +52,12 @@ not_read place text never said h =
     let r = was_read place text said h in
     never r.none r.log r.is
 
--- a fault that is not of another member's line stays
-pub no_other : (text : List ℕ) (fault : Unread) (why : NoEntry) → ((q : ℕ) → why ≡ Other q → ⊥) → or_other text fault why ≡ Err fault
-no_other text fault (Other q) never = absurd (never q refl)
-no_other text fault why never = refl
-
 -- ---- what a set takes
 
 module _ (place position : ℕ) (text : List ℕ) (log : LogSoFar) (at : position ≡ place + 1) (none : is_record text ≡ false)
     (is : log_for position text ≡ Ok log) where
   pub said_here : said_in place text ≡ Some (said_of position log)
-  said_here =
-      said_read place text log none (subst (λ p. log_for p text ≡ Ok log) at is) ∙ ap (λ p. Some (said_of p log)) (sym at)
+  said_here = said_read place text log none (subst (λ p. log_for p text ≡ Ok log) at is) ∙ ap (λ p. Some (said_of p log)) (sym at)
 
   pub not_taken : (s : LogsSoFar) → (CanTake s place (said_of position log) → ⊥) → (said : Said) → said_in place text ≡ Some said →
       CanTake s place said → ⊥

@@ -53,10 +53,9 @@ pub ruleset going = (begun_self, begun_on, begun_more)
 
 -- what is so of lists place by place is so of their fronts
 front : {A B : Type 0} (R : A → B → Type 0) (xs : List A) (ys zs : List B) → AllZip R xs (ys ++ zs) → AllZip R (take (length ys) xs) ys
-front R [] [] zs h = tt
-front R (x ∷ xs) [] zs h = tt
 front R [] (y ∷ ys) zs h = absurd h
 front R (x ∷ xs) (y ∷ ys) zs h = (h.0, front R xs ys zs h.1)
+front R xs _ zs h = tt
 
 -- a merge of logs opens with those that they begin with
 pub opens : (w : Rehearsal) (logs more : List (Vec LogLine)) → AllBegin logs more → IsMerge w more → AllOpenWith w logs
@@ -68,9 +67,7 @@ opens w logs more begun merged p member =
 opened : (v : Verdict) (logs more : List (Vec LogLine)) → AllBegin logs more → IfAccepted v (λ w. IsMerge w more) →
     IfAccepted v (λ w. AllOpenWith w logs)
 opened (Accepted world) logs more begun merged = opens world.rehearsal logs more begun merged
-opened (Refused culprit) logs more begun merged = tt
-opened (Cut culprit) logs more begun merged = tt
-opened (Limited culprit) logs more begun merged = tt
+opened _ logs more begun merged = tt
 
 pub opens_all : {E : Type 0} (r : Result Presumption E) (logs : List (Vec LogLine)) → IfOk r (λ p. AllBegin logs p.logs.items) →
     IfOk r (λ p. IfAccepted p.verdict (λ w. IsMerge w p.logs.items)) →

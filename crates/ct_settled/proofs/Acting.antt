@@ -1,5 +1,5 @@
 -- A member's own steps, one after another.
-use Rattle.std.proofs.Common.{◌≡◌, ℕ, Option, Some, None, refl}
+use Rattle.std.proofs.Common.{◌≡◌, ℕ, Option, None, arith}
 use Rattle.std.specs.Option.{option_or}
 use Rattle.ct_model.specs.Rehearsal.{Rehearsal}
 use Rattle.ct_model.specs.declared.step.Step.TheVariants.{Adopt, Begin, Conclude, Deliver, Enter, Follow}
@@ -9,14 +9,7 @@ use Rattle.ct_settled.specs.Hindrance.{acts, choices, told}
 in_turn : {A : Type 0} (a b c d e f g : Option A) →
     option_or (option_or (option_or (option_or (option_or (option_or a b) c) d) e) f) g
     ≡ option_or (option_or a (option_or b (option_or c None))) (option_or d (option_or e (option_or f (option_or g None))))
-in_turn (Some x) b c d e f g = refl
-in_turn None (Some x) c d e f g = refl
-in_turn None None (Some x) d e f g = refl
-in_turn None None None (Some x) e f g = refl
-in_turn None None None None (Some x) f g = refl
-in_turn None None None None None (Some x) g = refl
-in_turn None None None None None None (Some x) = refl
-in_turn None None None None None None None = refl
+in_turn a b c d e f g = grind arith
 
 pub acts_is : (w : Rehearsal) (p : ℕ) →
     option_or (option_or (option_or (option_or (option_or (option_or (told w (Deliver p)) (told w (Follow p))) (told w (Begin p)))

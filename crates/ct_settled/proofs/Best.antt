@@ -1,22 +1,12 @@
 -- Of those heard with the largest ts the first may be chosen.
-use Rattle.std.proofs.Common.{◌≡◌, ℕ, Bool, true, false, cond, ◌==◌, List, [], ◌∷◌, find, map, Some, refl}
-use Rattle.std.proofs.Common.{inl, inr, arith}
+use Rattle.std.proofs.Common.{◌≡◌, ℕ, true, ◌==◌, List, [], ◌∷◌, find, map, Some, refl, arith}
 use Rattle.std.proofs.lemmas.Bool.Decides.{nat_tests}
 use Rattle.ct_names.specs.Membership.{IsIn, IsWithoutRepeats}
 use Rattle.ct_names.specs.Value.{Value}
 use Rattle.ct_names.proofs.Lists
 use Rattle.ct_model.specs.Received.{Heard, Ballots, heard, estimate_from, is_largest}
+use Rattle.ct_model.proofs.Consensus.Readings.{find-some}
 use Rattle.ct_rounds.specs.Best.{best, best_estimate}
-
--- where an element passes the test the first one that does is found
-pub found : {A : Type 0} (test : A → Bool) (x : A) (xs : List A) → IsIn x xs → test x ≡ true → (y : A) × (find test xs ≡ Some y)
-found test x [] h pass = absurd h
-found test x (y ∷ xs) (inl e) pass = (y, rw (rw e at pass) refl)
-found test x (y ∷ xs) (inr h) pass = go (test y) (found test x xs h pass)
-  where
-    go : (b : Bool) → ((z : _) × (find test xs ≡ Some z)) → (z : _) × (cond b (Some y) (find test xs) ≡ Some z)
-    go true rest = (y, refl)
-    go false rest = rest
 
 -- of a member that was heard the one estimate is found
 found_own : (es : List (Heard Value)) → IsWithoutRepeats (map (λ e. e.member) es) → (b : Heard Value) → IsIn b es →
@@ -34,7 +24,7 @@ pub record IsBest (t : Ballots Value) : Type 0 where
 
 pub best_of : (t : Ballots Value) (e : Heard Value) → IsWithoutRepeats (heard t) → IsIn e t.estimates → is_largest t e.ts ≡ true → IsBest t
 best_of t e once h largest =
-    let top : (y : Heard Value) × (best_estimate t ≡ Some y) = found (λ x. is_largest t x.ts) e t.estimates h largest in
+    let top : (y : Heard Value) × (best_estimate t ≡ Some y) = find-some (λ x. is_largest t x.ts) e t.estimates h largest in
     let there = Lists.found-find (λ (x : Heard Value). is_largest t x.ts) top.0 t.estimates top.1 in
     record {
       from = top.0.member;

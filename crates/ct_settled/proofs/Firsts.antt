@@ -1,11 +1,11 @@
 -- The members of a group, one more at a time: the first for whom something is there, whether all pass a test, and how many do.
 use Rattle.std.proofs.Common.{◌≡◌, ℕ, zero, suc, ◌+◌, ◌-◌, ◌<◌, List, [], ◌∷◌, ◌++◌, Option, Some, None, refl, ap, ◌∙◌, arith}
 use Rattle.std.proofs.Common.{◌≤◌, Bool, true, false, filter, length, length-append}
-use Rattle.std.specs.Prelude.{◌&&◌}
 use Rattle.std.specs.List.{list_all}
 use Rattle.std.specs.Option.{option_or}
 use Rattle.std.proofs.lemmas.Bool.{false_from_ne_true}
 use Rattle.std.proofs.lemmas.List.Elements.{filter-append}
+use Rattle.std.proofs.lemmas.List.Folds.{list_all-append}
 use Rattle.ct_names.specs.Group.{IsMember, members}
 use Rattle.ct_names.specs.Membership.{IsIn}
 use Rattle.ct_names.proofs.Groups.{in-counting}
@@ -59,10 +59,6 @@ first_none f x [] e h = absurd h
 first_none f x (y ∷ xs) e h = grind (arith, first_none f x xs)
 
 -- ---- tests
-
-list_all-append : (test : ℕ → Bool) (xs ys : List ℕ) → list_all test (xs ++ ys) ≡ (list_all test xs && list_all test ys)
-list_all-append test [] ys = refl
-list_all-append test (x ∷ xs) ys = grind (arith, list_all-append test xs ys)
 
 -- all up to here
 pub all_passed : (test : ℕ → Bool) (i : ℕ) → list_all test (members i) ≡ true → test (i + 1) ≡ true → list_all test (members (i + 1)) ≡ true

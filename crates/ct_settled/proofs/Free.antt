@@ -1,5 +1,5 @@
 -- What is refused, and not for a limit, isn't enabled.
-use Rattle.std.proofs.Common.{◌≡◌, ◌⊎◌, inl, inr, ℕ, Bool, true, false, [], ◌∷◌, Option, Some, None, refl, ap, ◌∙◌, arith}
+use Rattle.std.proofs.Common.{◌≡◌, ◌⊎◌, inl, inr, ℕ, Bool, true, false, [], ◌∷◌, Option, Some, None, refl, ◌∙◌, arith}
 use Rattle.std.specs.Prelude.{is_none}
 use Rattle.ct_names.specs.declared.limit.Limit.{Limit}
 use Rattle.ct_names.specs.declared.limit.Limit.TheVariants.{Submissions, Instances, Rounds, Envelopes, Cells, Steps}
@@ -8,15 +8,14 @@ use Rattle.ct_names.specs.declared.refusal.Refusal.TheVariants.{NotWaiting, Full
 use Rattle.ct_model.specs.Actor.{actor}
 use Rattle.ct_model.specs.Cause.{at, cause, first_fault, limit}
 use Rattle.ct_model.specs.Lawful.{IsPresent, NamesWaiting, is_waiting}
-use Rattle.ct_model.specs.Next.{Outcome, next, row}
-use Rattle.ct_model.specs.Phases.{enter, choose, adopt, suspect, conclude}
+use Rattle.ct_model.specs.Next.{next}
 use Rattle.ct_model.specs.Rehearsal.{Rehearsal, state_of}
-use Rattle.ct_model.specs.State.{member}
 use Rattle.ct_model.specs.declared.step.Step.{Step}
 use Rattle.ct_model.specs.declared.step.Step.TheVariants.{Receive}
 use Rattle.ct_model.proofs.Basics.Options.{none-from}
+use Rattle.ct_model.proofs.Record.Allowed.{row-free}
 use Rattle.ct_model.proofs.Record.Causes.{own_tests}
-use Rattle.ct_model.proofs.Record.Limits.{own_tests-is, cause-limited, cause-passed}
+use Rattle.ct_model.proofs.Record.Limits.{cause-limited, cause-passed}
 use Rattle.ct_model.proofs.Relay.Messages.{next-is}
 use Rattle.ct_settled.specs.Hindrance.{told}
 
@@ -31,12 +30,6 @@ first_limit a b c d e f = grind arith
 limit_is : (w : Rehearsal) (step : Step) → IsOfLimit (limit w step)
 unfolding limit
 limit_is w step = grind (arith, first_limit)
-
--- where a row gives an outcome and what the step names waits or not, as the step asks, no test of its own fires
-row_free : (w : Rehearsal) (step : Step) (o : Outcome) → row w.setting (state_of w) (actor step) (member (state_of w) (actor step)) step
-    ≡ Some o → NamesWaiting w step → first_fault (own_tests w step) ≡ None
-unfolding enter choose adopt suspect conclude
-row_free w step o is names = ap first_fault (own_tests-is w step) ∙ grind arith
 
 module _ (w : Rehearsal) (step : Step) where
   -- no limit refuses the step
@@ -65,7 +58,7 @@ module _ (w : Rehearsal) (step : Step) where
   pub not_enabled : NamesWaiting w step → told w step ≡ None → next w.setting (state_of w) step ≡ None
   not_enabled names off = none-from (next w.setting (state_of w) step) (λ h is.
       let s = next-is w.setting (state_of w) step h is in
-      let none = tested_free (roomy off) (record { in_group = s.in_group; up = s.up }) (row_free w step s.outcome s.row names) in
+      let none = tested_free (roomy off) (record { in_group = s.in_group; up = s.up }) (row-free w step s.outcome s.row names) in
       let some = refused off in
       cc)
 

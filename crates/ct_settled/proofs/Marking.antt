@@ -1,8 +1,8 @@
 -- Marks of what was received, one step more at a time.
-use Rattle.std.proofs.Common.{◌≡◌, ℕ, ◌+◌, ◌<◌, Bool, false, List, [], ◌∷◌, ◌++◌, length, take, get_or, ap, sym, ◌∙◌, arith}
+use Rattle.std.proofs.Common.{◌≡◌, ℕ, ◌+◌, ◌<◌, Bool, false, List, length, take, get_or, ap, sym, ◌∙◌, arith}
 use Rattle.std.specs.Prelude.{◌||◌}
 use Rattle.std.specs.List.{list_any}
-use Rattle.std.proofs.lemmas.Grind.{take_at_read}
+use Rattle.std.proofs.lemmas.List.Folds.{list_any_more}
 use Rattle.ct_model.specs.Rehearsal.{Rehearsal, state_of}
 use Rattle.ct_model.specs.declared.step.Step.{Step}
 use Rattle.ct_settled.specs.Hindrance.{is_receipt, was_received}
@@ -12,10 +12,6 @@ use Rattle.ct_settled.specs.Marks.{AreMarked}
 pub record AreMarkedBy (w : Rehearsal) (steps : List Step) (marks : List Bool) : Type 0 where
   pub all : length marks ≡ length (state_of w).sent
   pub each : (i : ℕ) → i < length marks → get_or marks i false ≡ list_any (is_receipt w (i + 1)) steps
-
-any-more : (test : Step → Bool) (xs : List Step) (x : Step) → list_any test (xs ++ x ∷ []) ≡ (list_any test xs || test x)
-any-more test [] x = grind arith
-any-more test (y ∷ xs) x = grind (arith, any-more test xs x)
 
 pub one_more : (w : Rehearsal) (steps : List Step) (old new : List Bool) (i : ℕ) (d : Step) → i < length steps →
     AreMarkedBy w (take i steps) old → length new ≡ length old →
@@ -27,8 +23,7 @@ one_more w steps old new i d lt before same here = record {
       let h : k < length old = omega arith in
       here k h
       ∙ (ap (λ b. b || is_receipt w (k + 1) (get_or steps i d)) (before.each k h)
-      ∙ (sym (any-more (is_receipt w (k + 1)) (take i steps) (get_or steps i d))
-      ∙ ap (list_any (is_receipt w (k + 1))) (sym (take_at_read steps i d lt).1)));
+      ∙ sym (list_any_more (is_receipt w (k + 1)) steps i d lt));
 }
 
 pub all_marked : (w : Rehearsal) (steps : List Step) (marks : List Bool) → steps ≡ w.steps → AreMarkedBy w steps marks → AreMarked w marks

@@ -22,6 +22,7 @@ use Rattle.ct_model.specs.declared.step.Step.{Step}
 use Rattle.ct_model.specs.declared.step.Step.TheVariants.{Receive, Begin, Enter, Choose, Adopt, Suspect, Conclude, Deliver, Follow}
 use Rattle.ct_model.proofs.Basics.Options.{none-from, none-is}
 use Rattle.ct_model.proofs.Basics.Tests.{not_true, same_number, self_number}
+use Rattle.ct_model.proofs.Consensus.Readings.{find-some}
 use Rattle.ct_model.proofs.Record.Causes.{own_tests}
 use Rattle.ct_model.proofs.Record.Limits.{own_tests-is}
 use Rattle.ct_world.specs.Driving.{best_heard, next_local}
@@ -32,7 +33,6 @@ use Rattle.ct_play.specs.Picking.{waiting_at}
 use Rattle.ct_play.specs.Played.{Played}
 use Rattle.ct_play.specs.Turning.{suspects, tried_at}
 use Rattle.ct_settled.specs.Settled.{IsSubmission}
-use Rattle.ct_settled.proofs.Best.{found}
 use Rattle.ct_settled.proofs.Blocked.{IsOff, late_in, own_steps}
 use Rattle.ct_settled.proofs.Free.{IsRoomy, receipt_free, tested_free, untold}
 use Rattle.ct_settled.proofs.Still.{IsRefused}
@@ -130,7 +130,7 @@ module _ (t : Played) (set : List ℕ) (p : ℕ) (present : IsPresent t.rehearsa
     not_near k waits is =
         let x = found-list_any (λ i. i == k) (line_of w p) waits in
         let there : IsIn k (line_of w p) = rw (same_number x.item k x.passes) at x.is_in in
-        let some : (i : ℕ) × (first_near t p ≡ Some i) = found (is_near t p) k (waiting_at w p) (rw waiting_is there) is in
+        let some : (i : ℕ) × (first_near t p ≡ Some i) = find-some (is_near t p) k (waiting_at w p) (rw waiting_is there) is in
         let i = some.0 in
         let here : IsIn i (line_of w p) = subst (IsIn i) waiting_is (found-find (is_near t p) i (waiting_at w p) some.1).0 in
         let first = first_is (line_of w p) k refl there in

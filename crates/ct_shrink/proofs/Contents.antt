@@ -1,6 +1,6 @@
 -- Names of envelopes, by what they carry.
 use Rattle.std.proofs.Common.{◌≡◌, ◌≤◌, ◌<◌, ◌==◌, ◌&&◌, ℕ, zero, suc, Bool, true, false, not, List, [], ◌∷◌, Option, Some, None, length}
-use Rattle.std.proofs.Common.{refl, sym, ap, ap₂, ◌∙◌, subst, arith, cond, find, inl, inr}
+use Rattle.std.proofs.Common.{refl, sym, ap, ap₂, ◌∙◌, subst, arith, cond, find}
 use Rattle.std.specs.Prelude.{if◌then◌else◌, is_some, option_map, option_and_then, slice_get, unwrap_or}
 use Rattle.std.specs.List.{list_any}
 use Rattle.std.specs.Option.{option_or}
@@ -27,6 +27,8 @@ use Rattle.ct_model.specs.declared.step.Step.TheVariants as step
 use Rattle.ct_model.specs.declared.wire.Wire.{Wire}
 use Rattle.ct_model.specs.declared.wire.Wire.TheVariants as wire
 use Rattle.ct_model.proofs.Basics.Options.{when-some}
+use Rattle.ct_model.proofs.Basics.Tests.{self_number}
+use Rattle.ct_model.proofs.Consensus.Readings.{find-some}
 use Rattle.ct_model.proofs.Record.Allowed.{cause-allowed}
 use Rattle.ct_model.proofs.Record.Envelopes.{serials_sent}
 use Rattle.ct_model.proofs.Relay.Messages.{next-is}
@@ -78,17 +80,6 @@ at_within : {A : Type 0} (xs : List A) (k : ℕ) (x : A) → at_serial xs k ≡ 
 at_within xs zero x e = absurd (cc e)
 at_within xs (suc i) x e = let low : i < length xs = slice_get_within xs i x e in (omega arith, omega arith)
 
-find_by : {A : Type 0} (test : A → Bool) (y : A) (xs : List A) (b : Bool) → test y ≡ b →
-    (test y ≡ false → (z : A) × (find test xs ≡ Some z)) → (z : A) × (cond b (Some y) (find test xs) ≡ Some z)
-find_by test y xs true is more = (y, refl)
-find_by test y xs false is more = more is
-
--- one that passes is found
-find_there : {A : Type 0} (test : A → Bool) (x : A) (xs : List A) → IsIn x xs → test x ≡ true → (z : A) × (find test xs ≡ Some z)
-find_there test x [] h so = absurd h
-find_there test x (y ∷ xs) (inl same) so = find_by test y xs (test y) refl (λ fails. absurd (cc (sym so ∙ ap test same ∙ fails)))
-find_there test x (y ∷ xs) (inr h) so = find_by test y xs (test y) refl (λ _. find_there test x xs h so)
-
 -- the last number up to n that passes, where one does
 last_by : (test : ℕ → Bool) (n : ℕ) (b : Bool) → test (suc n) ≡ b →
     (test (suc n) ≡ false → (j : ℕ) × (last_of test n ≡ Some j) × (test j ≡ true)) →
@@ -107,9 +98,6 @@ last_there test (suc n) k low high so =
     last_by test n (test (suc n)) refl (λ fails. last_there test n k low (lower test k n high so fails) so)
 
 -- ---- an envelope and its name
-
-same_serial : (k : ℕ) → (k == k) ≡ true
-same_serial k = grind (arith, nat_tests)
 
 so_named : (o : Option (Letter (Unit {0}))) (f : Option ℕ) (c : Carried) (q : ℕ) → (is_carried c o && is_from (Some q) f) ≡ true →
     named o f ≡ Some (record { carried = c; from = q })
@@ -182,7 +170,7 @@ module _ (w : Rehearsal) (law : IsLawful w) (once : HasOneOfName w) where
     so_own =
         ap₂ (λ o s. is_carried (carried_of (f.letter).wire) o && is_from (Some f.sender) s) f.there f.from
         ∙ both (carries (f.letter).wire (carried_of (f.letter).wire)) (f.sender == f.sender) (carries_own (f.letter).wire)
-        (same_serial f.sender)
+        (self_number f.sender)
 
     -- what is so named and was sent to the member too is this envelope
     one_so : (j : ℕ) → is_sent w p k ≡ true → is_sent w p j ≡ true →
@@ -215,9 +203,9 @@ module _ (w : Rehearsal) (law : IsLawful w) (once : HasOneOfName w) where
       let passes : (found.item == k) ≡ true = found.passes in
       let same : found.item ≡ k = grind (arith, nat_tests) in
       let there = subst (λ j. IsIn j (line_of w p)) same found.is_in in
-      let z = find_there (is_so w c (Some f.sender)) k (line_of w p) there (so_own p k f) in
+      let z = find-some (is_so w c (Some f.sender)) k (line_of w p) there (so_own p k f) in
       let is = found-find (is_so w c (Some f.sender)) z.0 (line_of w p) z.1 in
-      let other = sent_waiting p z.0 (list_any-found (λ j. j == z.0) z.0 (line_of w p) is.0 (same_serial z.0)) in
+      let other = sent_waiting p z.0 (list_any-found (λ j. j == z.0) z.0 (line_of w p) is.0 (self_number z.0)) in
       ap (picked w p) (name_is p k f) ∙ (ap (find (is_so w c (Some f.sender))) (line_is p member)
       ∙ (z.1 ∙ ap Some (one_so p k f z.0 sent other is.1)))
 
@@ -227,7 +215,7 @@ module _ (w : Rehearsal) (law : IsLawful w) (once : HasOneOfName w) where
   waiting_content p k member waits =
       let f = letter_of p k (sent_waiting p k waits) in
       let is : is_it (picked w p (name_of Full w k)) k ≡ true =
-      ap (λ o. is_it o k) (picked_is p k member waits) ∙ same_serial k in
+      ap (λ o. is_it o k) (picked_is p k member waits) ∙ self_number k in
       let by_name : waiting_name Full w p k ≡ First (carried_of (f.letter).wire) (Some f.sender) =
       ap (λ b. if b then name_of Full w k else (if is_it (picked w p (name_of Full w k)) k then name_of Full w k else Serial k)) is
       ∙ name_is p k f in
@@ -261,7 +249,7 @@ module _ (w : Rehearsal) (law : IsLawful w) (once : HasOneOfName w) where
   repeated_content p k member sent away =
       let f = letter_of p k sent in
       let is : is_it (repeated w p (name_of Full w k)) k ≡ true =
-      ap (λ o. is_it o k) (repeated_is p k member sent away) ∙ same_serial k in
+      ap (λ o. is_it o k) (repeated_is p k member sent away) ∙ self_number k in
       let by_name : repeated_name Full w p k ≡ First (carried_of (f.letter).wire) (Some f.sender) =
       ap (λ b. if b then name_of Full w k else (if is_it (repeated w p (name_of Full w k)) k then name_of Full w k else Serial k)) is
       ∙ name_is p k f in

@@ -3,8 +3,8 @@ use Rattle.std.specs.Prelude.{List, [], ◌∷◌, codes, fold, Result, Ok, if�
 use Rattle.clap.specs.Words.{App, Row, Rule, Text, new_app, with_rule}
 use Rattle.ct_streams.specs.Arguments.{file_rule, flag_rule, option_rule, required_rule}
 use Rattle.ct_streams.specs.Values.{◌>>=◌, is_set, option_in}
-use Rattle.ct_shrink.specs.declared.form.Form.{Form}
-use Rattle.ct_shrink.specs.declared.form.Form.TheVariants.{Schedule, Record}
+use Rattle.ct_shrink.specs.declared.options.Form.{Form}
+use Rattle.ct_shrink.specs.declared.options.Form.TheVariants.{Schedule, Record}
 use Rattle.ct_shrink.specs.declared.options.ShrinkOptions.{ShrinkOptions}
 use Rattle.ct_shrink.specs.declared.words.TheConstants.{MOST_TRIES}
 

@@ -4,7 +4,7 @@ use Rattle.ct_play.specs.Goals.{shows}
 use Rattle.ct_shrink.specs.Naming.{IsByContent}
 use Rattle.ct_shrink.specs.Runs.{IsRunOf}
 use Rattle.ct_shrink.specs.Trials.{IsLeast, trial}
-use Rattle.ct_shrink.specs.declared.job.Job.{Job}
+use Rattle.ct_shrink.specs.declared.shrinking.Job.{Job}
 use Rattle.ct_shrink.specs.declared.kept_run.KeptRun.{KeptRun}
 use Rattle.ct_shrink.specs.declared.line.Line.{Line}
 use Rattle.ct_shrink.specs.declared.shrinking.Shrinking.{Shrinking}

@@ -7,12 +7,8 @@ use Rattle.ct_shrink.specs.declared.summary.Summary.{Summary}
 abbrev pub unit : ℕ → List ℕ
 unit trials = if trials == 1 then codes "trial" else codes "trials"
 
--- how many steps there were and are left, and behind other words how many trials that took
-abbrev pub sizes_text : Summary → List ℕ → List ℕ
-sizes_text s between =
-    concat (codes "of " ∷ decimal s.steps ∷ codes " steps " ∷ decimal s.left ∷ between ∷ decimal s.trials ∷ codes " " ∷ unit s.trials ∷ [])
-
--- the same
+-- how many steps there were and are left, and how many trials that took
 abbrev pub summary_text : Summary → List ℕ
 summary_text s =
-    if s.is_stopped then sizes_text s (codes " are left; stopped after ") else sizes_text s (codes " are left; ")
+    concat (codes "of " ∷ decimal s.steps ∷ codes " steps " ∷ decimal s.left ∷ codes " are left; "
+    ∷ (if s.is_stopped then codes "stopped after " else []) ∷ decimal s.trials ∷ codes " " ∷ unit s.trials ∷ [])

@@ -4,8 +4,8 @@ use Rattle.ct_model.specs.Rehearsal.{Rehearsal}
 use Rattle.ct_records.specs.Text.{record_text}
 use Rattle.ct_grammar.specs.declared.goal.Goal.{Goal}
 use Rattle.ct_listing.specs.Goals.{IsExpectingOf}
-use Rattle.ct_shrink.specs.declared.form.Form.{Form}
-use Rattle.ct_shrink.specs.declared.form.Form.TheVariants.{Schedule, Record}
+use Rattle.ct_shrink.specs.declared.options.Form.{Form}
+use Rattle.ct_shrink.specs.declared.options.Form.TheVariants.{Schedule, Record}
 
 -- the text is the run in this form: a schedule of which the judge makes the same record, in the end with the line that expects the goal;
 -- or the record and a line feed

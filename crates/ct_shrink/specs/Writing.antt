@@ -4,13 +4,13 @@ use Rattle.std.specs.Io.KnownBytes.{Appends}
 use Rattle.ct_model.specs.Rehearsal.{Rehearsal}
 use Rattle.ct_world.specs.Setup.{record_of}
 use Rattle.ct_world.specs.declared.setup.Setup.{Setup}
-use Rattle.ct_streams.specs.Streams.{WritesPart, read_part}
-use Rattle.ct_records.specs.declared.program_fault.ProgramFault.TheVariants.{Reader, Write}
+use Rattle.ct_streams.specs.Streams.{WritesPart}
 use Rattle.ct_records.specs.declared.read_fault.ReadFault.{ReadFault}
 use Rattle.ct_records.specs.Replay.{IsAllowed}
 use Rattle.ct_records.specs.Script.{script}
 use Rattle.ct_grammar.specs.declared.goal.Goal.{Goal}
-use Rattle.ct_listing.specs.Listing.{IsOfListing, IsRefusal}
+use Rattle.ct_listing.specs.Listing as listing
+use Rattle.ct_listing.specs.Listing.{IsRefusal}
 use Rattle.ct_play.specs.Played.{Played}
 use Rattle.ct_told.specs.declared.show_fault.ShowFault.TheVariants.{Program}
 use Rattle.ct_walk.specs.Strangers.{stranger}
@@ -51,20 +51,17 @@ pub record IsSmallerText (test : Played → Bool) (goal : Goal) (o : ShrinkOptio
 abbrev pub KnowsMembers : Goal → Rehearsal → Type 0
 KnowsMembers goal w = stranger w.setting.members goal ≡ None
 
--- the same of the bytes that were read
-abbrev pub IsSmallerIn : (Played → Bool) → Goal → ShrinkOptions → Result Rehearsal ReadFault → Summary → List ℕ → Type 0
-IsSmallerIn test goal o read told text = IsOkAnd read (λ w. KnowsMembers goal w × IsSmallerText test goal o w told text)
-
 -- the input is a record; a smaller run, and nothing else, was written
 abbrev pub WritesSmaller : (Played → Bool) → Goal → ShrinkOptions → Result Rehearsal ReadFault → Summary → Option (List ℕ) →
     Option (List ℕ) → Type 0
-WritesSmaller test goal o read told old new = (text : List ℕ) × IsSmallerIn test goal o read told text × Appends old new text
+WritesSmaller test goal o read told old new =
+    IsOkAnd read (λ w. KnowsMembers goal w × (text : List ℕ) × IsSmallerText test goal o w told text × Appends old new text)
 
 -- the same, and some first bytes of it, and nothing else, were written
 abbrev pub WritesSmallerInPart : (Played → Bool) → Goal → ShrinkOptions → Result Rehearsal ReadFault → Option (List ℕ) →
     Option (List ℕ) → Type 0
-WritesSmallerInPart test goal o read old new =
-    (told : Summary) × (text : List ℕ) × IsSmallerIn test goal o read told text × WritesPart old new text
+WritesSmallerInPart test goal o read old new = IsOkAnd read (λ w.
+    KnowsMembers goal w × (told : Summary) × (text : List ℕ) × IsSmallerText test goal o w told text × WritesPart old new text)
 
 -- the record never shows the goal
 abbrev pub IsHidden : (Played → Bool) → Rehearsal → Type 0
@@ -82,16 +79,10 @@ IsFaultOn test w (Show _) = ⊥
 abbrev pub IsStranger : Goal → ℕ → ℕ → Rehearsal → Type 0
 IsStranger goal member members w = (members ≡ w.setting.members) × (stranger w.setting.members goal ≡ Some member)
 
--- the fault is that of reading, of the record's steps, or of the goal. Of the board nothing is said
-abbrev pub IsFaultIn : (Played → Bool) → Goal → ShrinkFault → List ℕ → Type 0
-IsFaultIn test goal (NoMember member members) bytes = IsOkAnd (script bytes) (IsStranger goal member members)
-IsFaultIn test goal NotShown bytes = IsOkAnd (script bytes) (λ w. KnowsMembers goal w × IsHidden test w)
-IsFaultIn test goal Board bytes = ⊤
-IsFaultIn test goal (Show fault) bytes = IsOfListing fault bytes
-
 -- the input is no record, the goal names a member that its group hasn't, one of its steps is refused, or it never shows the goal. Of
 -- streams, of memory and of the board nothing is said
 abbrev pub FailsOn : (Played → Bool) → Goal → ShrinkFault → List ℕ → Type 0
-FailsOn test goal (Show (Program Reader)) input = ⊤
-FailsOn test goal (Show (Program Write)) input = ⊤
-FailsOn test goal fault input = IsFaultIn test goal fault (read_part input)
+FailsOn test goal (NoMember member members) input = IsOkAnd (script input) (IsStranger goal member members)
+FailsOn test goal NotShown input = IsOkAnd (script input) (λ w. KnowsMembers goal w × IsHidden test w)
+FailsOn test goal Board input = ⊤
+FailsOn test goal (Show fault) input = listing.FailsOn fault input

@@ -10,15 +10,27 @@ ghost use Rattle.ct_shrink.specs.Runs.{IsNoLarger, IsRunOf};
 ghost use Rattle.ct_shrink.specs.Trials.{IsLeast};
 
 use crate::first_run::first_run;
-use crate::job::Job;
+use crate::line::Line;
 use crate::progress::Progress;
 use crate::shrink_fault::ShrinkFault;
-use crate::shrinking::Shrinking;
-use crate::shrunk::Shrunk;
+use crate::shrinking::{Job, Shrinking};
 use ct_grammar::Goal;
 use ct_model::Step;
-use ct_world::Setup;
+use ct_world::{Setup, World};
 use std::alloc::Global;
+
+/// A run that was made smaller.
+#[derive(Drop)]
+pub struct Shrunk {
+    /// The run.
+    pub world: World,
+    /// Its steps, by what they carry.
+    pub lines: Vec<Line>,
+    /// How many trials were made.
+    pub trials: u32,
+    /// Whether no more trials might be made, so that lines may be left that it could do without.
+    pub is_stopped: bool,
+}
 
 /// Makes the run of these steps smaller, as long as it shows the goal, by so many trials at most. Somebody is told after each.
 pub fn shrink<P: Progress>(

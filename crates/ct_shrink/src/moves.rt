@@ -72,15 +72,14 @@ impl Move {
         requires { NamesContent act }
         ensures { IfSome result NamesContent }
     {
-        let act = match act {
+        Some(match act {
             Act::Receive(pick) => Act::Receive(self.pick(n, pick)?),
             Act::Postpone(pick) => Act::Postpone(self.pick(n, pick)?),
             Act::Lose(pick) => Act::Lose(self.pick(n, pick)?),
             Act::Repeat(pick) => Act::Repeat(self.pick(n, pick)?),
             Act::Choose(from) => Act::Choose(self.member(n, from)),
             act => act,
-        };
-        Some(act)
+        })
     }
 
     fn pick(self, n: u8, pick: Pick) -> Option<Pick>
@@ -90,10 +89,7 @@ impl Move {
         match pick {
             Pick::Serial(serial) => Some(Pick::Serial(serial)),
             Pick::First(carried, from) => {
-                let from = match from {
-                    Some(from) => Some(self.member(n, from)),
-                    None => None,
-                };
+                let from = from.map(|from| self.member(n, from));
                 Some(Pick::First(self.carried(n, carried)?, from))
             }
         }

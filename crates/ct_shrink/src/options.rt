@@ -1,6 +1,13 @@
 //! What a command line asks for.
 
-use crate::form::Form;
+/// As what the smaller run is written.
+#[derive(Clone, Copy, Debug, Drop, PartialEq, Eq)]
+pub enum Form {
+    /// A schedule.
+    Schedule,
+    /// A record.
+    Record,
+}
 
 /// What the words after `shrink` ask for, beside the goal.
 #[derive(Clone, Copy, Debug, Drop, PartialEq, Eq)]

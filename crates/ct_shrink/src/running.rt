@@ -1,24 +1,22 @@
 //! A record in, a smaller run out.
 
-ghost use Rattle.std.specs.Prelude.{◌≡◌, ◌≢◌, ◌<◌, ◌^◌, Ok, Err, IfOk, IfErr, IfSome};
+ghost use Rattle.std.specs.Prelude.{◌≡◌, ◌≢◌, ◌<◌, ◌^◌, Err, IfOk, IfErr, IfSome};
 ghost use Rattle.ct_streams.specs.Streams.{FailsOnce};
 ghost use Rattle.ct_records.specs.Script.{script};
 ghost use Rattle.ct_records.specs.View.{rehearsal_of};
-ghost use Rattle.ct_listing.specs.Listing.{IsOfListing};
 ghost use Rattle.ct_play.specs.Goals.{shows};
-ghost use Rattle.ct_shrink.specs.Writing.{FailsOn, IsFaultIn, IsFaultOn, IsSmallerIn, IsSmallerText, WritesSmaller, WritesSmallerInPart};
+ghost use Rattle.ct_shrink.specs.Writing.{FailsOn, IsFaultOn, IsSmallerText, WritesSmaller, WritesSmallerInPart};
 
 use crate::making::shrink;
 use crate::options::ShrinkOptions;
 use crate::progress::Progress;
 use crate::shrink_fault::ShrinkFault;
-use crate::smaller_run::SmallerRun;
-use crate::summary::Summary;
+use crate::summary::{SmallerRun, Summary};
 use crate::writing::written;
 use ct_grammar::Goal;
 use ct_listing::replay;
 use ct_records::{ProgramFault, Script};
-use ct_streams::{Failed, Sink, Source, read_all, write_all};
+use ct_streams::{Failed, Sink, Source, write_all};
 use ct_told::{ShowFault, read_told};
 use ct_walk::stranger;
 use std::alloc::Global;
@@ -51,34 +49,16 @@ pub fn write_smaller<R: Source, W: Sink, P: Progress>(
     // Nothing was written but where the writer failed.
     ensures quiet { IfErr result (λ fault. fault ≢ ShrinkFault.Show (ShowFault.Program ProgramFault.Write) → writer.new ≡ writer.old) }
 {
-    let bytes = read_all(alloc, reader)?;
-    let made = smaller_in(alloc, bytes, goal, options, progress)?;
-    match write_all(writer, &made.text) {
-        Ok(()) => Ok(made.summary),
-        Err(Failed) => Err(ShrinkFault::Show(ShowFault::Program(ProgramFault::Write))),
-    }
-}
-
-// The smaller run of the record, whose bytes are freed before it is made.
-#[tactic(auto, using(crate::proofs::Reading::text_in, crate::proofs::Reading::fault_in, crate::proofs::Reading::stranger_in))]
-fn smaller_in<P: Progress>(
-    alloc: Global,
-    bytes: Vec<u8>,
-    goal: &Goal,
-    options: &ShrinkOptions,
-    progress: &mut P,
-) -> Result<SmallerRun, ShrinkFault>
-    ensures ok { IfOk result (λ made.
-        IsSmallerIn (shows goal.now) goal.now options.now (script bytes.items) made.summary made.text.items) }
-    ensures fault { IfErr result (λ fault. IsFaultIn (shows goal.now) goal.now fault bytes.items) }
-{
-    let script = read(alloc, &bytes)?;
-    drop(bytes);
+    let script = read_told(alloc, reader)?;
     let members = script.group.n();
     if let Some(member) = stranger(members, goal) {
         return Err(ShrinkFault::NoMember { member, members });
     }
-    smaller_of(alloc, &script, goal, options, progress)
+    let made = smaller_of(alloc, &script, goal, options, progress)?;
+    match write_all(writer, &made.text) {
+        Ok(()) => Ok(made.summary),
+        Err(Failed) => Err(ShrinkFault::Show(ShowFault::Program(ProgramFault::Write))),
+    }
 }
 
 /// Makes the run of the record smaller, and answers its text; behind a schedule stands the line that expects the goal. Somebody is told
@@ -95,7 +75,7 @@ pub fn smaller_of<P: Progress>(
         IsSmallerText (shows goal.now) goal.now options.now (rehearsal_of script.now) made.summary made.text.items) }
     ensures fault { IfErr result (IsFaultOn (shows goal.now) (rehearsal_of script.now)) }
 {
-    replay(alloc, script)?;
+    drop(replay(alloc, script)?);
     let setup = script.setup();
     let shrunk = shrink(alloc, setup, &script.steps, goal, options.tries, progress)?;
     let summary = Summary {
@@ -106,15 +86,4 @@ pub fn smaller_of<P: Progress>(
     };
     let text = written(alloc, shrunk.world, options.form, goal)?;
     Ok(SmallerRun { text, summary })
-}
-
-// The record that the bytes are.
-fn read(alloc: Global, bytes: &[u8]) -> Result<Script, ShowFault>
-    ensures ok { IfOk result (λ read. script bytes.now ≡ Ok (rehearsal_of read)) }
-    ensures fault { IfErr result (λ fault. IsOfListing fault bytes.now) }
-{
-    match read_told(alloc, bytes)? {
-        Ok(script) => Ok(script),
-        Err(told) => Err(ShowFault::Unread(told)),
-    }
 }

@@ -1,12 +1,14 @@
 //! Why no smaller run is made.
 
 ghost use Rattle.std.specs.Prelude.{◌≡◌, Some};
-ghost use Rattle.ct_shrink.specs.Faults.{fault_text, status_of};
+ghost use Rattle.ct_told.specs.declared.show_fault.ShowFault.TheVariants.{Program};
+ghost use Rattle.ct_shrink.specs.Faults.{fault_text, of_line_fault, status_of};
+ghost use Rattle.ct_shrink.specs.declared.shrink_fault.ShrinkFault.TheVariants.{Show};
 
 use ct_names::Member;
 use ct_play::LineFault;
 use ct_records::ProgramFault;
-use ct_streams::{Fault, InputFault, Status};
+use ct_streams::{Fault, Status};
 use ct_told::ShowFault;
 use std::fmt;
 
@@ -58,9 +60,6 @@ impl fmt::Display for ShrinkFault {
 }
 
 impl From<LineFault> for ShrinkFault {
-    ghost use Rattle.ct_shrink.specs.Faults.{of_line_fault};
-    ghost use Rattle.std.specs.Prelude.{◌≡◌};
-
     ghost from_gives = { λ line fault. fault ≡ of_line_fault line };
 
     fn from(line: LineFault) -> ShrinkFault {
@@ -72,9 +71,6 @@ impl From<LineFault> for ShrinkFault {
 }
 
 impl From<ShowFault> for ShrinkFault {
-    ghost use Rattle.std.specs.Prelude.{◌≡◌};
-    ghost use Rattle.ct_shrink.specs.declared.shrink_fault.ShrinkFault.TheVariants.{Show};
-
     ghost from_gives = { λ show fault. fault ≡ Show show };
 
     fn from(show: ShowFault) -> ShrinkFault {
@@ -83,26 +79,9 @@ impl From<ShowFault> for ShrinkFault {
 }
 
 impl From<ProgramFault> for ShrinkFault {
-    ghost use Rattle.std.specs.Prelude.{◌≡◌};
-    ghost use Rattle.ct_told.specs.declared.show_fault.ShowFault.TheVariants.{Program};
-    ghost use Rattle.ct_shrink.specs.declared.shrink_fault.ShrinkFault.TheVariants.{Show};
-
     ghost from_gives = { λ program fault. fault ≡ Show (Program program) };
 
     fn from(program: ProgramFault) -> ShrinkFault {
         ShrinkFault::Show(ShowFault::Program(program))
-    }
-}
-
-impl From<InputFault> for ShrinkFault {
-    ghost use Rattle.std.specs.Prelude.{◌≡◌};
-    ghost use Rattle.ct_records.specs.ProgramFault.{of_input_fault};
-    ghost use Rattle.ct_told.specs.declared.show_fault.ShowFault.TheVariants.{Program};
-    ghost use Rattle.ct_shrink.specs.declared.shrink_fault.ShrinkFault.TheVariants.{Show};
-
-    ghost from_gives = { λ input fault. fault ≡ Show (Program (of_input_fault input)) };
-
-    fn from(input: InputFault) -> ShrinkFault {
-        ShrinkFault::Show(ShowFault::from(input))
     }
 }

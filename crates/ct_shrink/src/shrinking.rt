@@ -8,15 +8,25 @@ ghost use Rattle.ct_shrink.specs.Shrinking.{IsSmallest, IsNoSmaller, IsTrialOf, 
 ghost use Rattle.ct_shrink.specs.Trials.{trial};
 
 use crate::candidates::{moved, moves};
-use crate::job::Job;
 use crate::kept_run::KeptRun;
 use crate::line::Line;
 use crate::moves::Move;
 use crate::progress::Progress;
 use crate::trying::trial;
+use ct_grammar::Goal;
 use ct_play::LineFault;
+use ct_world::Setup;
 use std::alloc::{AllocError, Global};
 use std::mem;
+
+// The goal that a run has to show, how its world is made, and how many trials are made at most.
+#[derive(Drop)]
+pub(crate) struct Job<'g> {
+    pub(crate) alloc: Global,
+    pub(crate) setup: Setup,
+    pub(crate) goal: &'g Goal,
+    pub(crate) most: u32,
+}
 
 // The smallest run so far, and how many trials were made.
 #[derive(Drop)]

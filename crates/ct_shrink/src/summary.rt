@@ -22,20 +22,25 @@ impl fmt::Display for Summary {
     ghost output = { λ summary. Some (summary_text summary) };
 
     fn fmt<W: fmt::Write>(&self, f: &mut fmt::Formatter<W>) -> fmt::Result {
-        let Summary {
-            steps,
-            left,
-            trials,
-            is_stopped,
-        } = *self;
+        let (steps, left, trials) = (self.steps, self.left, self.trials);
         let unit = if trials == 1 { "trial" } else { "trials" };
-        if is_stopped {
-            write!(
-                f,
-                "of {steps} steps {left} are left; stopped after {trials} {unit}"
-            )
+        let after = if self.is_stopped {
+            "stopped after "
         } else {
-            write!(f, "of {steps} steps {left} are left; {trials} {unit}")
-        }
+            ""
+        };
+        write!(
+            f,
+            "of {steps} steps {left} are left; {after}{trials} {unit}"
+        )
     }
+}
+
+/// A run that was made smaller, as a text.
+#[derive(Drop)]
+pub struct SmallerRun {
+    /// The text.
+    pub text: Vec<u8>,
+    /// What is told of the run.
+    pub summary: Summary,
 }

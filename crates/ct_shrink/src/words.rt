@@ -4,8 +4,7 @@ ghost use Rattle.std.specs.Prelude.{◌≡◌, false, IfOk};
 ghost use Rattle.clap.specs.Words.{app_of, found_of, rows_of, rule_of};
 ghost use Rattle.ct_shrink.specs.Line.{form_in, goal_rule, options_of, shrink_app, tries_rule};
 
-use crate::form::Form;
-use crate::options::ShrinkOptions;
+use crate::options::{Form, ShrinkOptions};
 use clap::{Arg, ArgMatches, Command};
 use ct_streams::{
     WordFault, default_option, file_argument, flag, is_set, option_in, required_option, subcommand,

@@ -1,14 +1,13 @@
 //! From a run to its text.
 
-ghost use Rattle.std.specs.Prelude.{◌≡◌, ◌++◌, ◌∷◌, [], IfOk, IfErr};
-ghost use Rattle.ct_records.specs.Text.{record_text};
+ghost use Rattle.std.specs.Prelude.{◌≡◌, IfOk, IfErr};
 ghost use Rattle.ct_records.specs.View.{rehearsal_of};
 ghost use Rattle.ct_shrink.specs.Texts.{IsTextOf};
 
-use crate::form::Form;
+use crate::options::Form;
 use ct_grammar::Goal;
-use ct_listing::schedule_expecting;
-use ct_records::{ProgramFault, Script, write_record};
+use ct_listing::{record_line, schedule_expecting};
+use ct_records::{ProgramFault, Script};
 use ct_world::World;
 use std::alloc::{AllocError, Global};
 
@@ -26,19 +25,10 @@ pub(crate) fn written(
         Form::Record => {
             let text = record_line(alloc, &world);
             drop(world);
-            Ok(text?)
+            text
         }
         Form::Schedule => scheduled(alloc, world, goal),
     }
-}
-
-// The record and a line feed.
-fn record_line(alloc: Global, world: &World) -> Result<Vec<u8>, AllocError>
-    ensures { IfOk result (λ text. text.items ≡ record_text world.now.rehearsal ++ 10 ∷ []) }
-{
-    let mut text = write_record(alloc, world)?;
-    text.push(b'\n')?;
-    Ok(text)
 }
 
 // The schedule, and the line that expects the goal.

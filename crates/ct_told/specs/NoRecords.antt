@@ -1,15 +1,17 @@
 -- What is told of an input that is no record.
 use Rattle.std.specs.Prelude.{◌≡◌, ℕ, ◌==◌, Bool, false, ◌&&◌, ◌||◌, nat_eq, nat_le, List, [], ◌∷◌, codes, decimal}
-use Rattle.std.specs.Prelude.{Option, Some, None, Result, Ok, Err, if◌then◌else◌}
+use Rattle.std.specs.Prelude.{Option, Some, None, ⊤, if◌then◌else◌}
 use Rattle.std.specs.List.{concat, starts_with}
 use Rattle.std.specs.Result.{IsErrAnd}
+use Rattle.ct_streams.specs.Streams.{read_part}
+use Rattle.ct_records.specs.declared.program_fault.ProgramFault.TheVariants.{Reader, Memory}
 use Rattle.ct_records.specs.declared.read_fault.ReadFault.{ReadFault}
 use Rattle.ct_records.specs.declared.read_fault.ReadFault.TheVariants.{TooLong, NotJson, Shape, Version, OutOfMemory}
-use Rattle.ct_records.specs.declared.script.Script.{Script}
 use Rattle.serde_json.specs.Data.{Data}
 use Rattle.ct_records.specs.Script.{data_of, script}
-use Rattle.ct_records.specs.View.{rehearsal_of}
 use Rattle.ct_told.specs.declared.place.Place.{Place}
+use Rattle.ct_told.specs.declared.show_fault.ShowFault.{ShowFault}
+use Rattle.ct_told.specs.declared.show_fault.ShowFault.TheVariants.{Unread, Program}
 use Rattle.ct_told.specs.OddRecords.{versions_line, whole_line}
 use Rattle.ct_told.specs.OddSteps.{step_line}
 
@@ -61,7 +63,9 @@ IsToldAs told fault bytes = (place : Option Place) × (told ≡ told_line fault 
 abbrev pub IsToldOf : List ℕ → List ℕ → Type 0
 IsToldOf told bytes = IsErrAnd (script bytes) (λ fault. IsToldAs told fault bytes)
 
--- what was read: the record that the input is, or what is told of it
-abbrev pub IsReadOf : Result Script (List ℕ) → List ℕ → Type 0
-IsReadOf (Ok found) bytes = script bytes ≡ Ok (rehearsal_of found)
-IsReadOf (Err told) bytes = IsToldOf told bytes
+-- the input was not read: it is no record, the reader failed, or memory was refused
+abbrev pub IsUnread : ShowFault → List ℕ → Type 0
+IsUnread (Unread told) input = IsToldOf told (read_part input)
+IsUnread (Program Reader) input = ⊤
+IsUnread (Program Memory) input = ⊤
+IsUnread _ input = ⊥

@@ -1,7 +1,6 @@
 //! What is told of an input that is no record, and of what fails when a record is shown.
 #![tactic(auto)]
 
-mod fault_line;
 mod given_name;
 mod json_front;
 mod key;
@@ -14,7 +13,6 @@ mod reading;
 mod show_fault;
 mod text_part;
 
-pub use fault_line::FaultLine;
 pub use no_record::{NoRecord, begins_schedule};
 pub use reading::read_told;
 pub use show_fault::ShowFault;

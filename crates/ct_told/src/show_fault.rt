@@ -1,12 +1,14 @@
 //! Why nothing is shown of a record.
 
 ghost use Rattle.std.specs.Prelude.{◌≡◌, Some};
-ghost use Rattle.ct_told.specs.Faults.{fault_text, status_of};
+ghost use Rattle.ct_records.specs.ProgramFault.{of_input_fault};
+ghost use Rattle.ct_records.specs.declared.program_fault.ProgramFault.TheVariants.{Memory};
+ghost use Rattle.ct_told.specs.Faults.{fault_text, status_of, IsOfReplayFault};
+ghost use Rattle.ct_told.specs.declared.show_fault.ShowFault.TheVariants.{Program};
 
-use crate::fault_line::FaultLine;
 use crate::no_record::NoRecord;
 use ct_names::Member;
-use ct_records::ProgramFault;
+use ct_records::{ProgramFault, ReadFault};
 use ct_streams::{Fault, InputFault, Status};
 use ct_world::ReplayFault;
 use std::alloc::AllocError;
@@ -38,8 +40,7 @@ impl Fault for ShowFault {
     // 3 for a member that isn't there or for too many steps, 2 for the input, else the program's.
     fn status(&self) -> u8 {
         match self {
-            ShowFault::NoMember { .. } => Status::Words.code(),
-            ShowFault::TooManySteps { .. } => Status::Words.code(),
+            ShowFault::NoMember { .. } | ShowFault::TooManySteps { .. } => Status::Words.code(),
             ShowFault::Unread(_) => Status::NoRecord.code(),
             ShowFault::Program(fault) => fault.status(),
         }
@@ -64,14 +65,26 @@ impl fmt::Display for ShowFault {
                 )
             }
             ShowFault::Unread(told) => write!(f, "{told}"),
-            ShowFault::Program(fault) => write!(f, "{}", FaultLine { fault: *fault }),
+            ShowFault::Program(fault) => match *fault {
+                ProgramFault::Replay { at, refusal } => write!(f, "step {at}: {refusal}"),
+                ProgramFault::Read(fault) => match fault {
+                    ReadFault::TooLong => f.write_str("record: too long"),
+                    ReadFault::NotJson => f.write_str("record: not JSON"),
+                    ReadFault::Shape { at } => write!(f, "record: shape at {at}"),
+                    ReadFault::Version => f.write_str("record: version"),
+                    ReadFault::OutOfMemory => f.write_str("out of memory"),
+                },
+                ProgramFault::Reader => f.write_str("read failed"),
+                ProgramFault::Write => f.write_str("write failed"),
+                ProgramFault::Memory => f.write_str("out of memory"),
+                ProgramFault::Start => f.write_str("no thread"),
+                ProgramFault::Exchanged => f.write_str("world exchanged"),
+            },
         }
     }
 }
 
 impl From<ProgramFault> for ShowFault {
-    ghost use Rattle.ct_told.specs.declared.show_fault.ShowFault.TheVariants.{Program};
-
     ghost from_gives = { λ fault e. e ≡ Program fault };
 
     fn from(fault: ProgramFault) -> ShowFault {
@@ -80,9 +93,6 @@ impl From<ProgramFault> for ShowFault {
 }
 
 impl From<InputFault> for ShowFault {
-    ghost use Rattle.ct_records.specs.ProgramFault.{of_input_fault};
-    ghost use Rattle.ct_told.specs.declared.show_fault.ShowFault.TheVariants.{Program};
-
     ghost from_gives = { λ fault e. e ≡ Program (of_input_fault fault) };
 
     fn from(fault: InputFault) -> ShowFault {
@@ -91,8 +101,6 @@ impl From<InputFault> for ShowFault {
 }
 
 impl From<ReplayFault> for ShowFault {
-    ghost use Rattle.ct_told.specs.Faults.{IsOfReplayFault};
-
     ghost from_gives = { λ replay e. IsOfReplayFault replay e };
 
     fn from(replay: ReplayFault) -> ShowFault {
@@ -101,9 +109,6 @@ impl From<ReplayFault> for ShowFault {
 }
 
 impl From<AllocError> for ShowFault {
-    ghost use Rattle.ct_records.specs.declared.program_fault.ProgramFault.TheVariants.{Memory};
-    ghost use Rattle.ct_told.specs.declared.show_fault.ShowFault.TheVariants.{Program};
-
     ghost from_gives = { λ _ e. e ≡ Program Memory };
 
     fn from(_error: AllocError) -> ShowFault {

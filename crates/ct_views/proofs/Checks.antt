@@ -1,8 +1,9 @@
 -- Files that are checked one after the other.
-use Rattle.std.proofs.Common.{◌≡◌, ◌∙◌, ℕ, suc, ◌+◌, ◌<◌, List, get_or, map, [], ◌∷◌, ◌++◌, length, take, Option, Some, None}
+use Rattle.std.proofs.Common.{◌≡◌, ◌∙◌, ℕ, suc, ◌+◌, ◌<◌, List, get_or, map, [], ◌∷◌, ◌++◌, length, take, Option}
 use Rattle.std.proofs.Common.{Result, Ok, Err, ap, refl, subst, sym, append_assoc, append-nil, arith, zero-add}
 use Rattle.std.specs.Prelude.{Bool, fold, max, OnErr}
 use Rattle.std.specs.Io.KnownBytes.{Appends}
+use Rattle.std.proofs.KnownBytes.{Appends-nil, Appends-trans}
 use Rattle.std.proofs.lemmas.List.{map_more, take-map}
 use Rattle.ct_streams.specs.Streams.{WritesPart}
 use Rattle.ct_views.specs.declared.check_options.CheckOptions.{CheckOptions}
@@ -11,17 +12,6 @@ use Rattle.ct_views.specs.Checking.{AreChecked, Checks, ChecksOne, ChecksOnePart
 use Rattle.ct_views.specs.Checking.{status_of}
 
 -- ---- what is written, in pieces
-
-pub appends_more : (old mid new : Option (List ℕ)) (bs cs : List ℕ) → Appends old mid bs → Appends mid new cs →
-    Appends old new (bs ++ cs)
-appends_more None mid new bs cs a b = tt
-appends_more (Some xs) None new bs cs a b = absurd a
-appends_more (Some xs) (Some ys) None bs cs a b = b
-appends_more (Some xs) (Some ys) (Some zs) bs cs a b = b ∙ ap (λ t. t ++ cs) a ∙ append_assoc xs bs cs
-
-pub appends_none : (old : Option (List ℕ)) → Appends old old []
-appends_none None = tt
-appends_none (Some xs) = sym (append-nil xs)
 
 take_past : (n : ℕ) (xs ys : List ℕ) → xs ++ take n ys ≡ take (length xs + n) (xs ++ ys)
 take_past n [] ys = ap (λ k. take k ys) (sym (zero-add n))
@@ -32,7 +22,7 @@ take_past n (x ∷ xs) ys =
 part_more : (old mid new : Option (List ℕ)) (bs cs : List ℕ) → Appends old mid bs → WritesPart mid new cs →
     WritesPart old new (bs ++ cs)
 part_more old mid new bs cs a b =
-    (length bs + b.0, subst (Appends old new) (take_past b.0 bs cs) (appends_more old mid new bs (take b.0 cs) a b.1))
+    (length bs + b.0, subst (Appends old new) (take_past b.0 bs cs) (Appends-trans old mid new bs (take b.0 cs) a b.1))
 
 -- ---- one more file
 
@@ -65,7 +55,7 @@ module _ (bytes : Known) where
 
   -- before the first file
   pub checks_none : (options : CheckOptions) (old : Option (List ℕ)) → Checks bytes options [] old old 0
-  checks_none options old = record { outcomes = []; each = tt; lines = appends_none old; worst = refl }
+  checks_none options old = record { outcomes = []; each = tt; lines = Appends-nil old; worst = refl }
 
   module _ (options : CheckOptions) (names : List (List ℕ)) (name : List ℕ) (old mid new : Option (List ℕ)) (worst : ℕ)
       (before : Checks bytes options names old mid worst) where
@@ -75,7 +65,7 @@ module _ (bytes : Known) where
       outcomes = before.outcomes ++ one.0 ∷ [];
       each = each_more options.expects names before.outcomes name one.0 before.each one.1;
       lines = subst (Appends old new) (lines_more options.expects options.quiet names before.outcomes name one.0 before.each)
-          (appends_more old mid new _ _ before.lines one.3);
+          (Appends-trans old mid new _ _ before.lines one.3);
       worst = is ∙ ap (λ s. max worst s) one.2 ∙ ap (λ w. max w (status_of one.0)) before.worst
           ∙ worst_from 0 before.outcomes one.0;
     }

@@ -1,5 +1,5 @@
 -- What a view of a record shows.
-use Rattle.std.specs.Prelude.{◌≡◌, ℕ, ◌-◌, List, [], ◌++◌, length, nat_lt, Option, Some, None, Result, Err, slice_get}
+use Rattle.std.specs.Prelude.{◌≡◌, ℕ, ◌-◌, List, [], ◌++◌, length, nat_lt, Option, Some, None, Result, slice_get}
 use Rattle.std.specs.Prelude.{IsOkAnd, if◌then◌else◌, ⊤}
 use Rattle.std.specs.Io.KnownBytes.{Appends}
 use Rattle.ct_names.specs.declared.refusal.Refusal.{Refusal}
@@ -9,7 +9,7 @@ use Rattle.ct_model.specs.Senders.{senders}
 use Rattle.ct_world.specs.declared.replay_fault.ReplayFault.{ReplayFault}
 use Rattle.ct_world.specs.Replay.{first_steps}
 use Rattle.ct_records.specs.declared.program_fault.ProgramFault.{ProgramFault}
-use Rattle.ct_records.specs.declared.program_fault.ProgramFault.TheVariants.{Replay, Read, Write, Memory, Start, Exchanged}
+use Rattle.ct_records.specs.declared.program_fault.ProgramFault.TheVariants.{Replay, Read, Write, Start, Exchanged}
 use Rattle.ct_records.specs.declared.read_fault.ReadFault.{ReadFault}
 use Rattle.ct_records.specs.Replay.{IsAllowed, IsRefused}
 use Rattle.ct_streams.specs.Streams.{read_part, WritesPart}
@@ -20,7 +20,7 @@ use Rattle.ct_views.specs.declared.selection.Selection.{Selection}
 use Rattle.ct_told.specs.declared.show_fault.ShowFault.{ShowFault}
 use Rattle.ct_told.specs.declared.show_fault.ShowFault.TheVariants.{NoMember, TooManySteps, Unread, Program}
 use Rattle.ct_views.specs.declared.view.View.{View}
-use Rattle.ct_views.specs.declared.view.View.TheVariants.{Nothing, Report, Steps, State}
+use Rattle.ct_views.specs.declared.view.View.TheVariants.{Report, Steps, State}
 use Rattle.ct_show.specs.Facts.{refused_text}
 use Rattle.ct_json.specs.Json.{report_json}
 use Rattle.ct_json.specs.JsonState.{state_json}
@@ -54,14 +54,12 @@ part_of _ w = w
 
 -- what is shown of a record whose steps are all allowed
 abbrev pub shown_text : View → Rehearsal → List ℕ
-shown_text Nothing w = []
 shown_text Report w = report_json w
 shown_text (Steps selection form) w = lines_to selection form w (length w.steps)
 shown_text (State count form) w = state_in form w (senders w.setting w.steps)
 
 -- what is shown of one whose step of this number is refused: no report and no state; of steps the lines before that step, and its own
 abbrev pub refused_shown : View → Rehearsal → ℕ → Refusal → List ℕ
-refused_shown Nothing w number refusal = []
 refused_shown Report w number refusal = []
 refused_shown (Steps selection form) w number refusal =
     lines_to selection form w (number - 1)
@@ -120,23 +118,6 @@ FailsOn view (NoMember member members) input old new = IsOkAnd (script input) (L
 FailsOn view (TooManySteps steps) input old new = ⊥
 FailsOn view (Unread told) input old new = IsToldOf told (read_part input)
 FailsOn view (Program fault) input old new = FailsWith view fault (script input) old new
-
--- the same of the bytes that were read, before anything is written
-abbrev pub IsOfShowing : View → ShowFault → List ℕ → Type 0
-IsOfShowing view (NoMember member members) bytes = IsOkAnd (script bytes) (Lacks view member members)
-IsOfShowing view (TooManySteps steps) bytes = ⊥
-IsOfShowing view (Unread told) bytes = IsToldOf told bytes
-IsOfShowing view (Program fault) bytes = fault ≡ Memory
-
--- the text and the first refused step are those of the record that was read
-abbrev pub IsAnswerOf : View → Result Rehearsal ReadFault → List ℕ → Option ReplayFault → Type 0
-IsAnswerOf view read text refused = IsOkAnd read (λ w. IsAnswer view w text refused)
-
--- the fault is that of reading, or memory was refused
-abbrev pub IsOfReading : ProgramFault → Result Rehearsal ReadFault → Type 0
-IsOfReading (Read fault) read = read ≡ Err fault
-IsOfReading Memory read = ⊤
-IsOfReading _ read = ⊥
 
 -- a fault that comes before anything is written
 abbrev pub IsQuiet : ShowFault → Type 0

@@ -48,15 +48,14 @@ abbrev pub Meets : Bool → Option (List ℕ) → Rehearsal → Type 0
 Meets false known w = ⊤
 Meets true known w = HasReport known w
 
--- the fault is that of the bytes that were read: they are no record, or a step of the record is refused. Of reading and of memory
--- nothing is said
+-- the fault is that of the input: it is no record, or a step of the record is refused. Of reading and of memory nothing is said
 abbrev pub IsFaultOf : ShowFault → List ℕ → Type 0
-IsFaultOf (NoMember member members) bytes = ⊥
-IsFaultOf (TooManySteps steps) bytes = ⊥
-IsFaultOf (Unread told) bytes = IsToldOf told bytes
-IsFaultOf (Program (Read fault)) bytes = ⊥
-IsFaultOf (Program Write) bytes = ⊥
-IsFaultOf (Program fault) bytes = IsFaultIn fault bytes
+IsFaultOf (NoMember member members) input = ⊥
+IsFaultOf (TooManySteps steps) input = ⊥
+IsFaultOf (Unread told) input = IsToldOf told (read_part input)
+IsFaultOf (Program (Read fault)) input = ⊥
+IsFaultOf (Program Write) input = ⊥
+IsFaultOf (Program fault) input = IsFaultIn fault input
 
 -- this is what checking the file of this name comes to. A fault of the record comes before any of its report
 abbrev pub IsChecked : Known → Bool → List ℕ → Checked → Type 0
@@ -66,7 +65,7 @@ IsChecked bytes expects name OtherReport = (expects ≡ true)
     × IfSome (bytes name) (λ input. IsOkAnd (script input) (λ w. IsReplayed w × HasOther (bytes (report_name name)) w))
 IsChecked bytes expects name (NoReport _) = (expects ≡ true) × IfSome (bytes name) (λ input. IsOkAnd (script input) IsReplayed)
 IsChecked bytes expects name (NoFile fault) = ⊤
-IsChecked bytes expects name (Fault fault) = IfSome (bytes name) (λ input. IsFaultOf fault (read_part input))
+IsChecked bytes expects name (Fault fault) = IfSome (bytes name) (IsFaultOf fault)
 
 -- what comparing a report with the one in the file beside it comes to
 abbrev pub IsBeside : Option (List ℕ) → List ℕ → Checked → Type 0

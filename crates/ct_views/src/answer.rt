@@ -35,30 +35,9 @@ pub fn shown(alloc: Global, script: &Script, view: &View) -> Result<Answer, Prog
     ensures err { IfErr result (λ fault. fault ≡ Memory) }
 {
     match view {
-        View::Nothing => nothing_of(alloc, script),
         View::Report => report_of(alloc, script),
         View::Steps(selection, form) => { lines_of(alloc, script, selection, *form) }
         View::State(count, form) => state_of(alloc, script, *count, *form),
-    }
-}
-
-// No text.
-fn nothing_of(alloc: Global, script: &Script) -> Result<Answer, ProgramFault>
-    ensures ok { IfOk result (λ answer. IsAnswer View.Nothing (rehearsal_of script.now) answer.text.items answer.refused) }
-    ensures err { IfErr result (λ fault. fault ≡ Memory) }
-{
-    match World::replay(
-        alloc,
-        script.group,
-        script.cells,
-        script.batch,
-        &script.steps,
-    ) {
-        Ok(_) => Ok(Answer {
-            text: Vec::new(alloc),
-            refused: None,
-        }),
-        Err(fault) => without_text(alloc, fault),
     }
 }
 

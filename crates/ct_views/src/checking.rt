@@ -4,7 +4,7 @@ ghost use Rattle.std.specs.Prelude.{◌≡◌, ◌⊎◌, ◌<◌, ◌^◌, map,
 ghost use Rattle.std.specs.Str.{bytes_eq};
 ghost use Rattle.ct_text.specs.Adds.{Adds};
 ghost use Rattle.ct_records.specs.Replay.{IsReportOf};
-ghost use Rattle.ct_streams.specs.Streams.{FailsOnce, read_part};
+ghost use Rattle.ct_streams.specs.Streams.{FailsOnce};
 ghost use Rattle.ct_views.specs.Checking.{Checks, ChecksOne, ChecksOnePart, ChecksPart, IsBeside, IsChecked};
 ghost use Rattle.ct_views.specs.Checking.{checked_text, line_of, report_name, told, IsFaultOf};
 
@@ -88,23 +88,10 @@ fn checked<F: Files>(alloc: Global, files: &F, name: &str, expects: bool) -> Che
 fn replayed<R: Source + Drop>(alloc: Global, reader: R) -> Result<Vec<u8>, ShowFault>
     requires { R.failures reader < 2 ^ 63 }
     ensures ok { IfOk result (λ report. IfSome (R.left reader) (λ input. IsReportOf input report.items)) }
-    ensures fault { IfErr result (λ fault. IfSome (R.left reader) (λ input. IsFaultOf fault (read_part input))) }
+    ensures fault { IfErr result (λ fault. IfSome (R.left reader) (IsFaultOf fault)) }
 {
     let mut reader = reader;
-    let bytes = read_all(alloc, &mut reader)?;
-    report_of(alloc, bytes)
-}
-
-// The report of the record, whose bytes are freed before it is replayed.
-fn report_of(alloc: Global, bytes: Vec<u8>) -> Result<Vec<u8>, ShowFault>
-    ensures ok { IfOk result (λ text. IsReportOf bytes.items text.items) }
-    ensures fault { IfErr result (λ fault. IsFaultOf fault bytes.items) }
-{
-    let script = match read_told(alloc, &bytes)? {
-        Ok(script) => script,
-        Err(told) => return Err(ShowFault::Unread(told)),
-    };
-    drop(bytes);
+    let script = read_told(alloc, &mut reader)?;
     let (world, _board) = World::replay(
         alloc,
         script.group,

@@ -1,16 +1,16 @@
 //! A record in, what a view shows of it out.
 
-ghost use Rattle.std.specs.Prelude.{◌≡◌, ◌<◌, ◌^◌, Ok, Err, IfOk, IfErr, IfSome, IsOkAnd, None, OnOk};
+ghost use Rattle.std.specs.Prelude.{◌≡◌, ◌<◌, ◌^◌, Err, IfErr, IfSome, IsOkAnd, None, OnOk};
 ghost use Rattle.ct_streams.specs.Streams.{FailsOnce};
 ghost use Rattle.ct_records.specs.Script.{script};
 ghost use Rattle.ct_records.specs.View.{rehearsal_of};
-ghost use Rattle.ct_views.specs.Answer.{Shows, ShowsPart, FailsOn, IsAnswerOf, IsOfShowing, IsQuiet, lacking};
+ghost use Rattle.ct_views.specs.Answer.{Shows, ShowsPart, FailsOn, IsQuiet, lacking};
 
-use crate::answer::{Answer, shown};
+use crate::answer::shown;
 use crate::view::View;
 use ct_names::Member;
 use ct_records::{ProgramFault, Script};
-use ct_streams::{Failed, Sink, Source, read_all, write_all};
+use ct_streams::{Failed, Sink, Source, write_all};
 use ct_told::{ShowFault, read_told};
 use std::alloc::Global;
 
@@ -40,8 +40,12 @@ pub fn show<R: Source, W: Sink>(
     // Nothing was written but at a refused step, or where the writer failed.
     ensures quiet { IfErr result (λ fault. IsQuiet fault → writer.new ≡ writer.old) }
 {
-    let bytes = read_all(alloc, reader)?;
-    let answer = answered(alloc, bytes, view)?;
+    let script = read_told(alloc, reader)?;
+    if let Some(member) = lacking(view, &script) {
+        let members = script.group.n();
+        return Err(ShowFault::NoMember { member, members });
+    }
+    let answer = shown(alloc, &script, view)?;
     match write_all(writer, &answer.text) {
         Err(Failed) => Err(ShowFault::Program(ProgramFault::Write)),
         Ok(()) => match answer.refused {
@@ -54,32 +58,10 @@ pub fn show<R: Source, W: Sink>(
     }
 }
 
-// What the view shows of the record, whose bytes are freed before it is shown.
-fn answered(alloc: Global, bytes: Vec<u8>, view: &View) -> Result<Answer, ShowFault>
-    ensures ok { IfOk result (λ answer. IsAnswerOf view.now (script bytes.items) answer.text.items answer.refused) }
-    ensures member { OnOk result (IsOkAnd (script bytes.items) (λ w. lacking view.now w ≡ None)) }
-    ensures fault { IfErr result (λ fault. IsOfShowing view.now fault bytes.items) }
-{
-    let script = match read_told(alloc, &bytes)? {
-        Ok(script) => script,
-        Err(told) => return Err(ShowFault::Unread(told)),
-    };
-    drop(bytes);
-    if let Some(member) = lacking(view, &script) {
-        let members = script.group.n();
-        return Err(ShowFault::NoMember { member, members });
-    }
-    Ok(shown(alloc, &script, view)?)
-}
-
 // The member whose steps are asked for, where the group lacks it.
 fn lacking(view: &View, script: &Script) -> Option<Member>
     ensures { result ≡ lacking view.now (rehearsal_of script.now) }
 {
     let member = view.member()?;
-    if script.group.n() < member {
-        Some(member)
-    } else {
-        None
-    }
+    (script.group.n() < member).then_some(member)
 }

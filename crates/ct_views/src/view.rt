@@ -10,8 +10,6 @@ use ct_names::Member;
 /// What is shown of a record.
 #[derive(Clone, Copy, Debug, Drop, PartialEq, Eq)]
 pub enum View {
-    /// Nothing, but whether it is replayed.
-    Nothing,
     /// Its report, as JSON.
     Report,
     /// A line for each of the steps that are asked for.
@@ -27,7 +25,7 @@ impl View {
     {
         match self {
             View::Steps(selection, _) => selection.member,
-            View::Nothing | View::Report | View::State(_, _) => None,
+            View::Report | View::State(_, _) => None,
         }
     }
 }

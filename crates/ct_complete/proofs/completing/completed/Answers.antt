@@ -12,5 +12,5 @@ returns-in-None-clause-ok c =
     completed_is (rehearsal_of c.args.script.now) c.in_ok-stage.stage c.complete.new.stage c.in_ok-record_line-in-None.field-0.items
     (staged_is c.setup.result c.deref.result.now (rehearsal_of c.args.script.now) c.in_ok-stage.stage c.in_ok-stage.ensures.ok
     c.deref.ensures.value c.setup.ensures)
-    c.in_ok-replay.ensures.ok c.in_ok-complete.ensures.played done
-    (c.in_ok-record_line-in-None.ensures ∙ ap (λ (w : Rehearsal). record_text w ++ 10 ∷ []) c.world.ensures)
+    c.in_ok-replay.ensures.allowed c.in_ok-complete.ensures.played done
+    (c.in_ok-record_line-in-None.ensures.text ∙ ap (λ (w : Rehearsal). record_text w ++ 10 ∷ []) c.world.ensures)

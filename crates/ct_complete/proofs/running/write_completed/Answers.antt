@@ -1,17 +1,41 @@
-use Rattle.ct_complete.proofs.Reading.{handed, part_seen, writes_seen}
+use Rattle.std.proofs.Common.{◌≡◌, ℕ, List, Ok, subst}
+use Rattle.std.specs.Io.KnownBytes.{Appends}
+use Rattle.ct_model.specs.Rehearsal.{Rehearsal}
+use Rattle.ct_records.specs.Script.{script}
+use Rattle.ct_records.specs.View.{rehearsal_of}
+use Rattle.ct_streams.specs.Streams.{WritesPart}
+use Rattle.ct_told.specs.declared.show_fault.ShowFault.TheVariants.{Program}
+use Rattle.ct_told.proofs.Seen.{fault_seen, record_seen, unread_seen}
+use Rattle.ct_listing.proofs.Seen.{refusal_fails}
+use Rattle.ct_complete.specs.declared.complete_fault.CompleteFault.{CompleteFault}
+use Rattle.ct_complete.specs.declared.complete_fault.CompleteFault.TheVariants.{Hindered, Board, Show}
+use Rattle.ct_complete.specs.Completing.{FailsOn, IsFaultOn}
 use Rattle.ct_complete.proofs.running.write_completed.Goals as goal
+
+fails : (w : Rehearsal) (fault : CompleteFault) (input : List ℕ) → IsFaultOn w fault → script input ≡ Ok w → FailsOn fault input
+fails w (Hindered obstacle) input h e = rw e h
+fails w Board input h e = tt
+fails w (Show (Program fault)) input h e = refusal_fails w fault input h e
+fails w (Show _) input h e = absurd h
+
+pub returns-in_err-script-clause-fault : goal.returns-in_err-script-clause-fault
+returns-in_err-script-clause-fault g c =
+    unread_seen Show FailsOn c.from_residual.result _ c.in_err-script.field-0.0 c.from_residual.ensures.1 c.in_err-script.ensures.fault
+    (λ text input h. h) (λ input. (tt, tt))
 
 pub returns-in_err-text-clause-fault : goal.returns-in_err-text-clause-fault
 returns-in_err-text-clause-fault g c =
-    handed c.from_residual-in_err-text.result c.in_err-text.field-0.0 (g.R.Source.left c.args.reader.now) c.in_ok-bytes.bytes.items
-    c.from_residual-in_err-text.ensures.1 c.in_ok-bytes.ensures.bytes c.in_err-text.ensures.fault
+    let w = rehearsal_of c.in_ok-script.script in
+    let fault = c.in_err-text.field-0.0 in
+    fault_seen FailsOn c.from_residual-in_err-text.result _ w fault c.from_residual-in_err-text.ensures.1 c.in_ok-script.ensures.ok
+    (λ input. fails w fault input c.in_err-text.ensures.fault)
 
 pub returns-in-Ok-clause-ok : goal.returns-in-Ok-clause-ok
 returns-in-Ok-clause-ok g c =
-    writes_seen (g.R.Source.left c.args.reader.now) c.in_ok-bytes.bytes.items c.in_ok-text.text.items c.deref.result.now
-    (g.W.Sink.written c.args.writer.now) _ c.in_ok-bytes.ensures.bytes c.in_ok-text.ensures.ok c.deref.ensures.value c.in-Ok.ensures.bytes
+    record_seen _ (rehearsal_of c.in_ok-script.script) _ c.in_ok-script.ensures.ok
+    (c.in_ok-text.text.items, c.in_ok-text.ensures.ok, subst (Appends _ _) c.deref.ensures.value c.in-Ok.ensures.bytes)
 
 pub returns-clause-part : goal.returns-clause-part
 returns-clause-part g c = λ _.
-    part_seen (g.R.Source.left c.args.reader.now) c.in_ok-bytes.bytes.items c.in_ok-text.text.items c.deref.result.now
-    (g.W.Sink.written c.args.writer.now) _ c.in_ok-bytes.ensures.bytes c.in_ok-text.ensures.ok c.deref.ensures.value c.in-Err.ensures.part
+    record_seen _ (rehearsal_of c.in_ok-script.script) _ c.in_ok-script.ensures.ok
+    (c.in_ok-text.text.items, c.in_ok-text.ensures.ok, subst (WritesPart _ _) c.deref.ensures.value c.in-Err.ensures.part)

@@ -1,40 +1,54 @@
-use Rattle.std.proofs.Common.{◌≡◌, List, ℕ, Option, None, Result, Ok, Err, refl}
-use Rattle.std.specs.Prelude.{IfErr, IfSome, IsErrAnd, IsOkAnd}
-use Rattle.ct_streams.specs.Streams.{read_part}
+use Rattle.std.proofs.Common.{◌≡◌, ◌∙◌, ℕ, List, None, Ok, arith, rules, subst}
+use Rattle.std.proofs.lemmas.Grind.{common_steps}
+use Rattle.std.specs.Io.KnownBytes.{Appends}
+use Rattle.ct_model.specs.Rehearsal.{Rehearsal}
+use Rattle.ct_records.specs.declared.program_fault.ProgramFault.TheVariants as of
+use Rattle.ct_records.specs.Script.{script}
+use Rattle.ct_records.specs.View.{rehearsal_of}
+use Rattle.ct_streams.specs.Streams.{WritesPart}
 use Rattle.ct_told.specs.declared.show_fault.ShowFault.{ShowFault}
+use Rattle.ct_told.specs.declared.show_fault.ShowFault.TheVariants.{NoMember, Unread, Program}
+use Rattle.ct_told.proofs.Seen.{fault_seen, record_seen, unread_seen}
 use Rattle.ct_diagram.specs.declared.window.Window.{Window}
-use Rattle.ct_told.proofs.Seen.{input_seen}
+use Rattle.ct_diagram.specs.Diagram.{FailsWith}
 use Rattle.ct_diagram.specs.Running.{FailsOn}
 use Rattle.ct_diagram.specs.Window.{lacking}
-use Rattle.ct_diagram.proofs.Seen.{draws_seen, fault_seen, part_seen}
 use Rattle.ct_diagram.proofs.running.draw.Goals as goal
 
--- the fault that is handed on
-handed : {T : Type 0} (r : Result T ShowFault) (fault : ShowFault) (left : Option (List ℕ)) (window : Window) →
-    IsErrAnd r (λ e. e ≡ fault) → IfSome left (λ input. FailsOn window fault (read_part input)) →
-    IfErr r (λ e. IfSome left (λ input. FailsOn window e (read_part input)))
-handed (Ok x) fault left window same h = tt
-handed (Err e) fault left window same h = rw same h
+fails : (window : Window) (w : Rehearsal) (fault : ShowFault) (input : List ℕ) → FailsWith window fault w → script input ≡ Ok w →
+    FailsOn window fault input
+fails window w (NoMember member members) input h e = absurd h.1
+fails window w (Unread told) input h e = absurd h.1
+fails window w (Program of.Reader) input h e = tt
+fails window w (Program of.Write) input h e = tt
+fails window w (Program of.Memory) input h e = tt
+fails window w _ input h e = rw e h
+
+pub returns-in_err-script-clause-fault : goal.returns-in_err-script-clause-fault
+returns-in_err-script-clause-fault g c =
+    unread_seen (λ f. f) (FailsOn c.args.window.now) c.from_residual.result _ c.in_err-script.field-0.0 c.from_residual.ensures.1
+    c.in_err-script.ensures.fault (λ text input h. h) (λ input. (tt, tt))
 
 pub returns-in_err-text-clause-fault : goal.returns-in_err-text-clause-fault
 returns-in_err-text-clause-fault g c =
-    let left = g.R.Source.left c.args.reader.now in
+    let w = rehearsal_of c.in_ok-script.script in
     let fault = c.in_err-text.field-0.0 in
-    handed c.from_residual-in_err-text.result fault left c.args.window.now c.from_residual-in_err-text.ensures.1
-    (fault_seen left c.in_ok-bytes.bytes.items c.args.window.now fault c.in_ok-bytes.ensures.bytes c.in_err-text.ensures.fault)
+    fault_seen (FailsOn c.args.window.now) c.from_residual-in_err-text.result _ w fault c.from_residual-in_err-text.ensures.1
+    c.in_ok-script.ensures.ok (λ input. fails c.args.window.now w fault input c.in_err-text.ensures.err)
 
 pub returns-in-Ok-clause-members : goal.returns-in-Ok-clause-members
 returns-in-Ok-clause-members g c =
-    let bytes = c.in_ok-bytes.bytes.items in
-    input_seen (g.R.Source.left c.args.reader.now) bytes bytes (λ r. IsOkAnd r (λ w. lacking c.args.window.now w ≡ None))
-    c.in_ok-bytes.ensures.bytes refl c.in_ok-text.ensures.members
+    record_seen _ (rehearsal_of c.in_ok-script.script) (λ w. lacking c.args.window.now w ≡ None) c.in_ok-script.ensures.ok
+    (first_of (search rules, grind (arith, common_steps)))
 
 pub returns-in-Ok-clause-ok : goal.returns-in-Ok-clause-ok
 returns-in-Ok-clause-ok g c =
-    draws_seen (g.R.Source.left c.args.reader.now) c.in_ok-bytes.bytes.items c.args.window.now c.in_ok-text.text.items c.deref.result.now
-    (g.W.Sink.written c.args.writer.now) _ c.in_ok-bytes.ensures.bytes c.in_ok-text.ensures.ok c.deref.ensures.value c.in-Ok.ensures.bytes
+    let h = c.in_ok-text.ensures.ok in
+    record_seen _ (rehearsal_of c.in_ok-script.script) _ c.in_ok-script.ensures.ok
+    (h.0, h.1, subst (Appends _ _) (c.deref.ensures.value ∙ h.2) c.in-Ok.ensures.bytes)
 
 pub returns-clause-part : goal.returns-clause-part
 returns-clause-part g c = λ _.
-    part_seen (g.R.Source.left c.args.reader.now) c.in_ok-bytes.bytes.items c.args.window.now c.in_ok-text.text.items c.deref.result.now
-    (g.W.Sink.written c.args.writer.now) _ c.in_ok-bytes.ensures.bytes c.in_ok-text.ensures.ok c.deref.ensures.value c.in-Err.ensures.part
+    let h = c.in_ok-text.ensures.ok in
+    record_seen _ (rehearsal_of c.in_ok-script.script) _ c.in_ok-script.ensures.ok
+    (h.0, h.1, subst (WritesPart _ _) (c.deref.ensures.value ∙ h.2) c.in-Err.ensures.part)

@@ -25,8 +25,7 @@ loop-more-preserved c =
     let here : AllBegin c.args.merger.logs c.in-Ok.growing.logs =
     subst (λ (m : Growing). AllBegin c.args.merger.logs m.logs) (sym same) c.loop-more.invariant.begun in
     record {
-      begun =
-          begun_on c.args.merger.logs c.in-Ok.growing.logs c.presume_line.new.merger.logs here c.in_ok-presume_line.ensures.begun;
+      begun = begun_on c.args.merger.logs c.in-Ok.growing.logs c.presume_line.new.merger.logs here c.in_ok-presume_line.ensures.begun;
       setting = c.presume_line.ensures.setting ∙ ap (λ (m : Growing). m.setting) same ∙ c.loop-more.invariant.setting;
       cells = c.presume_line.ensures.cells ∙ ap (λ (m : Growing). m.cells) same ∙ c.loop-more.invariant.cells;
     }

@@ -22,7 +22,7 @@ returns-clause-ok g c =
     record {
       run = shrunk.world.rehearsal;
       left = is_left (shows c.args.goal.now) c.args.options.now.tries (rehearsal_of c.args.script.now) told shrunk.world.rehearsal
-          c.setup-setup.result shrunk.lines.items c.setup-setup.ensures c.in_ok-replay.ensures.ok c.in_ok-shrunk.ensures.run
+          c.setup-setup.result shrunk.lines.items c.setup-setup.ensures c.in_ok-replay.ensures.allowed c.in_ok-shrunk.ensures.run
           c.in_ok-shrunk.ensures.named
           (subst (λ (l : List Step). IsNoLarger (shows c.args.goal.now) c.setup-setup.result l (length shrunk.world.rehearsal.steps))
           c.deref.ensures.value c.in_ok-shrunk.ensures.no_larger)
