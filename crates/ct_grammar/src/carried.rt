@@ -3,7 +3,7 @@
 use ct_names::{Instance, Member, Round};
 
 /// What an envelope carries, as far as a line of a schedule names it.
-#[derive(Clone, Copy, Debug, PartialEq, Eq)]
+#[derive(Clone, Copy, Debug, PartialEq, Eq, Hash)]
 pub enum Carried {
     /// `data 1.2`: a message, by its origin and its number.
     Data(Member, u32),

@@ -210,6 +210,6 @@ impl Judge {
         let Some(setup) = Setup::new(group, self.heading.cells, self.heading.batch) else {
             unreachable!()
         };
-        Stage::new(self.alloc, setup)
+        Ok(Stage::new(self.alloc, setup)?.with_index())
     }
 }

@@ -8,7 +8,7 @@ ghost use Rattle.ct_listing.specs.Naming.{waiting_name};
 
 use ct_grammar::{Carried, Pick};
 use ct_names::{Member, Serial};
-use ct_play::{Stage, carried_of, picked, repeated, waiting_at};
+use ct_play::{Stage, carried_of, picked, repeated, waits_at};
 
 /// How many envelopes may have been sent since one that is repeated and has a short name: all of them are looked at.
 pub const MOST_SINCE: u32 = 1_000;
@@ -82,14 +82,6 @@ fn few_since(stage: &Stage, serial: Serial) -> bool
     ensures { result ≡ few_since stage.now.rehearsal serial }
 {
     stage.world().sent().saturating_sub(serial) <= MOST_SINCE
-}
-
-// Whether the serial waits at the member.
-#[tactic(auto, unfolding(ct_play::specs::Picking::waits_at))]
-fn waits_at(stage: &Stage, member: Member, serial: Serial) -> bool
-    ensures { result ≡ waits_at stage.now.rehearsal member serial }
-{
-    waiting_at(stage, member).iter().any(|k| *k == serial)
 }
 
 // Whether the serial is this one.

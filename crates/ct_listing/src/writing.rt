@@ -89,7 +89,7 @@ fn written(alloc: Global, setup: Setup, steps: &[Step]) -> Result<String, LineFa
     ensures err { IfErr result IsShort }
 {
     let mut text = String::new(alloc);
-    let mut stage = Stage::new(alloc, setup)?;
+    let mut stage = Stage::new(alloc, setup)?.with_index();
     push_schedule(alloc, &mut text, &mut stage, steps)?;
     Ok(text)
 }
@@ -103,7 +103,7 @@ fn expecting(alloc: Global, setup: Setup, steps: &[Step], goal: &Goal) -> Result
     ensures err { IfErr result IsShort }
 {
     let mut text = String::new(alloc);
-    let mut stage = Stage::new(alloc, setup)?;
+    let mut stage = Stage::new(alloc, setup)?.with_index();
     push_schedule(alloc, &mut text, &mut stage, steps)?;
     push_expected(alloc, &mut text, &mut stage, goal)?;
     Ok(text)

@@ -14,8 +14,8 @@ use Rattle.ct_model.proofs.Record.Taken.{line-step}
 use Rattle.ct_model.proofs.Steps.LineSteps.{line_outcome, repeat_taken}
 use Rattle.ct_model.proofs.Steps.Receive.{cause-receive-away, receive_waits}
 use Rattle.ct_world.specs.World.{verdict}
-use Rattle.ct_merge.proofs.Addresses.{sent_kept}
 use Rattle.ct_merge.proofs.Failing.{limit_full}
+use Rattle.ct_merge.proofs.Finding.{sent_kept}
 use Rattle.ct_merge.proofs.Standing.{refused_so}
 use Rattle.ct_merge.proofs.Stopping.{refused, unless_more}
 use Rattle.ct_merge.specs.declared.log_act.LogAct.TheVariants as told

@@ -1,4 +1,3 @@
-pub mod Addresses
 pub mod Advancing
 pub mod Begun
 pub mod Beyond
@@ -7,6 +6,7 @@ pub mod Circles
 pub mod Coming
 pub mod Common
 pub mod Failing
+pub mod Finding
 pub mod Halting
 pub mod Held
 pub mod Local

@@ -1,4 +1,3 @@
-pub mod Addresses
 pub mod Barred
 pub mod Culprits
 pub mod Deeds

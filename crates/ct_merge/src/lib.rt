@@ -5,7 +5,6 @@
 //! it stands behind the line that sent the envelope. A second receipt of one name is a repetition by the network.
 #![tactic(auto)]
 
-mod address;
 mod culprit_text;
 mod entering;
 mod entry;
@@ -38,7 +37,6 @@ mod testing;
 mod unsent;
 mod verdict;
 
-pub use address::{Address, address_of};
 pub use culprit_text::push_why;
 pub use entry::NoEntry;
 pub use expectation::{Expectation, Expectations};

@@ -1,58 +1,46 @@
 //! Lines of logs, taken one by one.
 
-ghost use Rattle.std.specs.Prelude.{◌≡◌, ◌+◌, ◌≤◌, ◌<◌, [], length, false, true, None, Some, IfErr, IfOk, IfSome, OnOk};
+ghost use Rattle.std.specs.Prelude.{◌≡◌, ◌≤◌, ◌<◌, [], length, false, true, None, Some, IfErr, IfOk, IfSome, OnOk};
 ghost use Rattle.ct_model.specs.Cause.{cause};
 ghost use Rattle.ct_model.specs.Lawful.{IsLawful, IsPresent, is_waiting};
-ghost use Rattle.ct_model.specs.Rehearsal.{extended, state_of};
-ghost use Rattle.indexmap.specs.IndexMap.{get, spare};
+ghost use Rattle.ct_model.specs.Rehearsal.{extended};
 ghost use Rattle.ct_world.specs.Setup.{record_of};
 ghost use Rattle.ct_play.specs.Faults.{UnlessShort, is_short};
-ghost use Rattle.ct_merge.specs.Addresses.{IsIndex, IsIndexTo};
 ghost use Rattle.ct_merge.specs.Merging.{step_of, IsLater, IsReady, IsSerialOf, IsTakenTo, IsThereFor, LeavesAll, LeavesOthers, Takes};
 ghost use Rattle.ct_merge.specs.Names.{IsSentAs};
 ghost use Rattle.ct_play.specs.Stating.{is_stated, stated_text};
 ghost use Rattle.ct_merge.specs.Stops.{IsFaultAt, IsOutcome, IsRefusedBy, IsStuck, IsStuckIn, line_fault_of};
 ghost use Rattle.ct_merge.specs.Waits.{IsUnsent, WaitsIn};
-ghost use Rattle.ct_merge.specs.contracts.address.AddressPartialEq.TheImpl.{ghosts as equal};
 
-use crate::address::{Address, address_of};
 use crate::full_name::FullName;
 use crate::log_act::LogAct;
 use crate::log_line::LogLine;
-use crate::naming::address;
 use crate::own_fault::OwnFault;
-use ct_grammar::Text;
+use ct_grammar::{Pick, Text};
 use ct_model::Step;
 use ct_names::{Member, Refusal, Serial};
-use ct_play::{LineFault, Stage, is_stated, push_stated};
+use ct_play::{LineFault, Stage, is_stated, push_stated, repeated};
 use ct_world::{Setup, World};
-use indexmap::IndexMap;
 use std::alloc::Global;
 use std::marker::Model;
 
 // How many lines of a log are taken before the next log's.
 const LINES_OF_A_TURN: usize = 8;
 
-/// A world into which the lines of logs are taken, with the serial of each envelope by its receiver and its full name.
+/// A world into which the lines of logs are taken.
 #[derive(Drop)]
 pub(crate) struct Taker {
     alloc: Global,
     stage: Stage,
-    serials: IndexMap<Address, Serial>,
 }
 
 // Contracts see the record.
 impl Model for Taker {
-    ghost use Rattle.indexmap.specs.IndexMap.{get};
     ghost use Rattle.ct_model.specs.Rehearsal.{Rehearsal};
-    ghost use Rattle.ct_merge.specs.Addresses.{IsIndex};
-    ghost use Rattle.ct_merge.specs.contracts.address.AddressPartialEq.TheImpl.{ghosts as equal};
 
     ghost Value = { Rehearsal };
 
     ghost view = { λ m. m.stage.rehearsal };
-
-    ghost invariant = { λ m. IsIndex m.stage.rehearsal (get equal.eq m.serials) };
 }
 
 impl Taker {
@@ -63,8 +51,7 @@ impl Taker {
     {
         Ok(Taker {
             alloc,
-            stage: Stage::new(alloc, setup)?,
-            serials: IndexMap::new(alloc),
+            stage: Stage::new(alloc, setup)?.with_index(),
         })
     }
 
@@ -76,23 +63,23 @@ impl Taker {
     }
 
     /// The serial of the envelope of this name that was sent to the member.
-    #[tactic(auto, using(crate::proofs::Addresses::looked_up))]
+    #[tactic(auto, using(crate::proofs::Finding::looked_up))]
     pub(crate) fn serial(&self, member: Member, name: FullName) -> Option<Serial>
         ensures sent { IfSome result (IsSentAs self.now member name) }
         ensures none { result ≡ None → IsUnsent self.now member name }
     {
-        self.serials.get(&address_of(member, name)).copied()
+        repeated(
+            &self.stage,
+            member,
+            Pick::First(name.carried, Some(name.from)),
+        )
     }
 
     /// The world alone.
     pub(crate) fn into_world(self) -> World
         ensures { result.rehearsal ≡ self }
     {
-        let Taker {
-            alloc: _,
-            stage,
-            serials: _,
-        } = self;
+        let Taker { alloc: _, stage } = self;
         stage.into_world()
     }
 
@@ -233,34 +220,13 @@ impl Taker {
     }
 
     // Takes the step.
-    #[tactic(auto, using(crate::proofs::Stopping::allowed, crate::proofs::Stopping::step_refused, crate::proofs::Addresses::index_same))]
+    #[tactic(auto, using(crate::proofs::Stopping::allowed, crate::proofs::Stopping::step_refused))]
     fn step(&mut self, step: Step) -> Result<(), LineFault>
         ensures joined { OnOk result (self.new ≡ extended self.old step) }
         ensures allowed { OnOk result (cause self.old step ≡ None) }
         ensures refused { IfErr result (λ fault. UnlessShort (is_short fault) (IsRefusedBy self.old step fault)) }
     {
-        lawful(self.stage.world());
-        let before = self.stage.world().sent();
-        // A step sends each member one envelope at most.
-        self.serials
-            .reserve(usize::from(self.stage.world().group().n()))?;
-        self.stage.step(step)?;
-        note(&self.stage, before, &mut self.serials);
-        Ok(())
-    }
-}
-
-// Notes the envelopes behind so many.
-#[tactic(auto, using(crate::proofs::Addresses::noted))]
-fn note(stage: &Stage, before: u32, serials: &mut IndexMap<Address, Serial>)
-    requires room { length (state_of stage.now.rehearsal).sent ≤ before + spare serials.old }
-    requires before { IsIndexTo stage.now.rehearsal before (get equal.eq serials.old) }
-    ensures { IsIndex stage.now.rehearsal (get equal.eq serials.new) }
-{
-    for place in before..stage.world().sent() {
-        serials
-            .insert(address(stage, place + 1), place + 1)
-            .unwrap();
+        self.stage.step(step)
     }
 }
 

@@ -2,7 +2,9 @@ pub mod Counting
 pub mod Expected
 pub mod Faulty
 pub mod Finding
+pub mod Firsts
 pub mod Folding
+pub mod Indexing
 pub mod Lasts
 pub mod Later
 pub mod Looking

@@ -5,6 +5,7 @@ pub mod Expecting
 pub mod Facts
 pub mod Faults
 pub mod Goals
+pub mod Indexing
 pub mod Parts
 pub mod Picking
 pub mod Played

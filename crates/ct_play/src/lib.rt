@@ -2,11 +2,13 @@
 #![tactic(auto)]
 
 mod acting;
+mod address;
 mod claims;
 mod cuts;
 mod expecting;
 mod facts;
 mod goals;
+mod index;
 mod line_fault;
 mod naming;
 mod picking;
@@ -23,7 +25,7 @@ pub use expecting::unmet;
 pub use facts::{push_there, push_wanted};
 pub use goals::shows;
 pub use line_fault::LineFault;
-pub use picking::{carried_of, picked, repeated, waiting_at};
+pub use picking::{carried_of, picked, repeated, waiting_at, waits_at};
 pub use playing::play;
 pub use stage::Stage;
 pub use stating::{is_stated, push_came_to, push_outcome, push_stated};

@@ -1,6 +1,6 @@
 //! Which envelopes a line names.
 
-ghost use Rattle.std.specs.Prelude.{◌≡◌, IfOk};
+ghost use Rattle.std.specs.Prelude.{◌≡◌, slice_get, IfOk};
 ghost use Rattle.ct_play.specs.Picking.{carried_of, carries, first_from, first_so, is_carried, is_from, is_gone, is_of, is_so, is_to};
 ghost use Rattle.ct_play.specs.Picking.{is_waiting, last_so, picked, repeated, waiting_at, waiting_from, waits_at, was_sent};
 
@@ -9,6 +9,9 @@ use ct_grammar::{Carried, Pick};
 use ct_names::{Member, MemberSet, Serial};
 use ct_world::{Letter, Wire};
 use std::alloc::{AllocError, Global};
+
+// A line of so many is looked through faster than an index.
+const SHORT_LINE: usize = 32;
 
 /// What the wire carries.
 pub fn carried_of(wire: &Wire) -> Carried
@@ -82,12 +85,11 @@ pub fn waiting_at(stage: &Stage, member: Member) -> &[Serial]
     stage.world().waiting(member).unwrap_or(&[])
 }
 
-// Whether the serial waits at the member.
-#[tactic(auto, unfolding(crate::specs::Picking::waits_at))]
-fn waits_at(stage: &Stage, member: Member, serial: Serial) -> bool
+/// Whether the serial waits at the member.
+pub fn waits_at(stage: &Stage, member: Member, serial: Serial) -> bool
     ensures { result ≡ waits_at stage.now.rehearsal member serial }
 {
-    waiting_at(stage, member).iter().any(|k| *k == serial)
+    stage.world().place(member, serial).is_some()
 }
 
 // The first serial in the member's waiting line whose envelope is so named.
@@ -95,10 +97,32 @@ fn waits_at(stage: &Stage, member: Member, serial: Serial) -> bool
 fn first_so(stage: &Stage, member: Member, carried: Carried, from: Option<Member>) -> Option<Serial>
     ensures { result ≡ first_so stage.now.rehearsal member carried from }
 {
-    waiting_at(stage, member)
-        .iter()
+    let line = waiting_at(stage, member);
+    if line.len() > SHORT_LINE && stage.is_indexed() {
+        let place = first_place(stage, member, carried, from);
+        return line.get(place).copied();
+    }
+    line.iter()
         .copied()
         .find(|serial| is_so(stage, carried, from, *serial))
+}
+
+// Its place, found among the envelopes that carry this; the length of the line where there is none.
+fn first_place(stage: &Stage, member: Member, carried: Carried, from: Option<Member>) -> usize
+    ensures { first_so stage.now.rehearsal member carried from ≡ slice_get (waiting_at stage.now.rehearsal member) result }
+{
+    // For its clauses: what waits was sent to the member.
+    let _ = stage.world().record();
+    let mut first = waiting_at(stage, member).len();
+    let mut serial = stage.last_to(member, carried, stage.world().sent());
+    while serial > 0 {
+        if is_so(stage, carried, from, serial) {
+            let place = stage.world().place(member, serial);
+            first = first.min(place.unwrap_or(first));
+        }
+        serial = stage.last_to(member, carried, serial - 1);
+    }
+    first
 }
 
 // The serials that wait at the member and that a step of one of these sent.
@@ -145,14 +169,14 @@ fn last_so(stage: &Stage, member: Member, carried: Carried, from: Option<Member>
     ensures { result ≡ last_so stage.now.rehearsal member carried from }
 {
     let mut last = None;
-    let mut serial = stage.world().sent();
+    let mut serial = stage.last_to(member, carried, stage.world().sent());
     while serial > 0 {
         if is_gone(stage, member, carried, from, serial) {
             return Some(serial);
         }
         let sent = was_sent(stage, member, carried, from, serial);
         last = last.or(sent.then_some(serial));
-        serial -= 1;
+        serial = stage.last_to(member, carried, serial - 1);
     }
     last
 }
@@ -211,7 +235,7 @@ pub(crate) fn is_carried(carried: Carried, letter: Option<Letter>) -> bool
     }
 }
 
-fn carries(wire: &Wire, carried: Carried) -> bool
+pub(crate) fn carries(wire: &Wire, carried: Carried) -> bool
     ensures { result ≡ carries wire.now carried }
 {
     match (wire, carried) {

@@ -1,16 +1,21 @@
 //! A world, whose step sent each of its envelopes, and how its group is cut.
 
 ghost use Rattle.std.specs.Prelude.{◌≡◌, ◌≤◌, ◌++◌, [], None, Ok, OnOk, OnErr, IfOk, IfErr, length, replicate, slice_get};
+ghost use Rattle.std.specs.Option.{ForSome};
+ghost use Rattle.ct_model.specs.Rehearsal.{state_of};
 ghost use Rattle.ct_model.specs.Senders.{senders};
 ghost use Rattle.ct_world.specs.Setup.{record_of};
 ghost use Rattle.ct_grammar.specs.Sides.{whole};
 ghost use Rattle.ct_play.specs.Acting.{stepped};
 ghost use Rattle.ct_play.specs.Faults.{IsFaultOf};
+ghost use Rattle.ct_play.specs.Indexing.{IsIndexOf, IsLastTo, is_at};
 ghost use Rattle.ct_play.specs.Picking.{sender_of};
-ghost use Rattle.ct_play.specs.Played.{first_part, with_step};
+ghost use Rattle.ct_play.specs.Played.{first_part, with_record, with_step};
 
+use crate::address::Address;
+use crate::index::Index;
 use crate::line_fault::LineFault;
-use ct_grammar::Sides;
+use ct_grammar::{Carried, Sides};
 use ct_model::Step;
 use ct_names::{Member, Refusal, Serial};
 use ct_world::{Setup, World};
@@ -28,20 +33,24 @@ pub struct Stage {
     owed: u32,
     owed_by: Member,
     sides: Sides,
+    // Of what was sent, perhaps without the last step's.
+    index: Option<Index>,
 }
 
 // Contracts see the record and the sides.
 impl Model for Stage {
     ghost use Rattle.std.specs.Prelude.{◌≡◌, ◌++◌, replicate};
     ghost use Rattle.ct_model.specs.Senders.{senders};
+    ghost use Rattle.std.specs.Option.{ForSome};
+    ghost use Rattle.ct_play.specs.Indexing.{IsIndexOf};
     ghost use Rattle.ct_play.specs.Played.{Played};
 
     ghost Value = { Played };
 
     ghost view = { λ s. record { rehearsal = s.stage.rehearsal; sides = s.sides } };
 
-    ghost invariant = { λ s. s.noted.items ++ replicate s.owed s.owed_by
-        ≡ senders s.stage.rehearsal.setting s.stage.rehearsal.steps };
+    ghost invariant = { λ s. (s.noted.items ++ replicate s.owed s.owed_by ≡ senders s.stage.rehearsal.setting s.stage.rehearsal.steps)
+        × ForSome s.index (IsIndexOf s.stage.rehearsal) };
 }
 
 impl Stage {
@@ -61,7 +70,18 @@ impl Stage {
             owed: 0,
             owed_by: 0,
             sides: Sides::whole(),
+            index: None,
         })
+    }
+
+    /// The same stage, which from here on keeps an index of what is sent: among many envelopes it finds those that carry something
+    /// about as fast as among few.
+    pub fn with_index(self) -> Stage
+        ensures { result ≡ self }
+    {
+        let mut stage = self;
+        stage.index = Some(Index::new(stage.alloc));
+        stage
     }
 
     /// The world.
@@ -83,6 +103,7 @@ impl Stage {
             owed: _,
             owed_by: _,
             sides: _,
+            index: _,
         } = self;
         let (world, _) = stage.into_parts();
         world
@@ -121,6 +142,25 @@ impl Stage {
         }
     }
 
+    /// Whether it has an index.
+    pub(crate) fn is_indexed(&self) -> bool {
+        self.index.is_some()
+    }
+
+    /// A serial up to this one, behind which no envelope up to it goes to the member and carries this.
+    pub(crate) fn last_to(&self, member: Member, carried: Carried, upto: Serial) -> Serial
+        ensures { IsLastTo (is_at (state_of self.now.rehearsal).sent (record { to = member; carried = carried })) upto result }
+    {
+        let address = Address {
+            to: member,
+            carried,
+        };
+        match &self.index {
+            Some(index) => index.last_to(self.stage.world(), address, upto),
+            None => upto,
+        }
+    }
+
     /// Takes the step, unless the rules refuse it; one that is not taken changes nothing. A cut forbids nothing here.
     #[tactic(auto, unfolding(crate::specs::Acting::stepped))]
     pub fn step(&mut self, step: Step) -> Result<(), LineFault>
@@ -129,6 +169,7 @@ impl Stage {
         ensures same { OnErr result (self.new ≡ self.old) }
         ensures joined { OnOk result (self.new ≡ with_step self.old step) }
     {
+        note_sent(&mut self.index, self.stage.world())?;
         note(&mut self.noted, self.owed_by, self.owed)?;
         self.owed = 0;
         self.owed_by = step.member();
@@ -178,7 +219,13 @@ impl Stage {
             cells: world.cells(),
             bound: world.bound(),
         };
-        let mut stage = replayed(self.alloc, setup, &world.record()[..count])?;
+        let first = Stage::new(self.alloc, setup)?;
+        let first = if self.is_indexed() {
+            first.with_index()
+        } else {
+            first
+        };
+        let mut stage = replayed(first, &world.record()[..count])?;
         stage.cut(self.sides);
         Ok(stage)
     }
@@ -196,6 +243,18 @@ impl Stage {
     }
 }
 
+// Notes what was sent, where there is an index.
+fn note_sent(index: &mut Option<Index>, world: &World) -> Result<(), LineFault>
+    requires { ForSome index.old (IsIndexOf world.now.rehearsal) }
+    ensures kept { ForSome index.new (IsIndexOf world.now.rehearsal) }
+    ensures err { IfErr result (λ fault. fault ≡ LineFault.OutOfMemory) }
+{
+    match index {
+        Some(index) => Ok(index.note(world)?),
+        None => Ok(()),
+    }
+}
+
 // Notes the sender of as many envelopes.
 fn note(noted: &mut Vec<Member>, sender: Member, sent: u32) -> Result<(), LineFault>
     ensures ok { OnOk result (noted.new.items ≡ noted.old.items ++ replicate sent sender) }
@@ -209,12 +268,13 @@ fn note(noted: &mut Vec<Member>, sender: Member, sent: u32) -> Result<(), LineFa
     }
 }
 
-// The stage that these steps lead to.
-fn replayed(alloc: Global, setup: Setup, steps: &[Step]) -> Result<Stage, LineFault>
-    ensures ok { IfOk result (λ stage. stage ≡ record { rehearsal = record_of setup steps.now; sides = whole }) }
+// The stage to which these steps lead from one without steps.
+fn replayed(first: Stage, steps: &[Step]) -> Result<Stage, LineFault>
+    requires { first.rehearsal.steps ≡ [] }
+    ensures ok { IfOk result (λ stage. stage ≡ with_record first (record first.rehearsal { steps = steps.now })) }
     ensures err { IfErr result (λ fault. fault ≡ LineFault.OutOfMemory) }
 {
-    let mut stage = Stage::new(alloc, setup)?;
+    let mut stage = first;
     for (i, step) in steps.iter().enumerate() {
         // The invariant names it.
         let _ = i;

@@ -73,6 +73,15 @@ impl<'g> Watch<'g> {
         })
     }
 
+    /// The same, with an index of what is sent.
+    pub fn with_index(self) -> Watch<'g>
+        ensures { result ≡ self.entry }
+    {
+        let mut watch = self;
+        watch.stage = watch.stage.with_index();
+        watch
+    }
+
     /// Takes the step, unless the rules refuse it; then nothing changes. Where memory is refused all steps may be gone, and no
     /// more be taken.
     pub fn step(&mut self, step: Step) -> Result<(), LineFault>

@@ -1,11 +1,18 @@
 //! What logs say that members received.
 
 use ct_grammar::Carried;
-use ct_merge::{Address, FullName, LogAct, LogLine, Merger, address_of};
+use ct_merge::{FullName, LogAct, LogLine, Merger};
 use ct_names::{Group, Instance, MAX_MEMBERS, Member, Round};
 use indexmap::IndexMap;
 use std::alloc::{AllocError, Global};
 use std::hash::Hash;
+
+// The receiver of an envelope, and its name.
+#[derive(Clone, Copy, Drop, PartialEq, Eq, Hash)]
+struct Receipt {
+    member: Member,
+    name: FullName,
+}
 
 // A member, in an instance.
 #[derive(Clone, Copy, Drop, PartialEq, Eq, Hash)]
@@ -35,7 +42,7 @@ pub(crate) const ENDED: u8 = 4;
 pub(crate) struct Receipts {
     group: Group,
     // The place of a line in its log by what that receives; of several one that states it.
-    places: IndexMap<Address, usize>,
+    places: IndexMap<Receipt, usize>,
     // How far a member came at least in an instance, by what others received from it.
     stages: IndexMap<Part, u64>,
     // A round in which an instance was decided.
@@ -79,9 +86,9 @@ impl Receipts {
         place: usize,
         is_stated: bool,
     ) -> Result<(), AllocError> {
-        let address = address_of(member, name);
-        if is_stated || self.places.get(&address).is_none() {
-            put(&mut self.places, address, place)?;
+        let receipt = Receipt { member, name };
+        if is_stated || self.places.get(&receipt).is_none() {
+            put(&mut self.places, receipt, place)?;
         }
         self.take_stage(name)
     }
@@ -123,7 +130,7 @@ impl Receipts {
 
     /// Whether the member received the envelope of this name.
     pub(crate) fn has(&self, member: Member, name: FullName) -> bool {
-        self.places.get(&address_of(member, name)).is_some()
+        self.places.get(&Receipt { member, name }).is_some()
     }
 
     /// What is stated of the envelope of this name that the member received.
@@ -133,7 +140,7 @@ impl Receipts {
         member: Member,
         name: FullName,
     ) -> Option<&'l str> {
-        let place = self.places.get(&address_of(member, name)).copied()?;
+        let place = self.places.get(&Receipt { member, name }).copied()?;
         said_at(merger.log(member), place)
     }
 }

@@ -33,7 +33,7 @@ pub(crate) fn first_run(
     ensures named { IfOk result (λ first. IfSome first (λ run. All IsByContent run.lines.items)) }
     ensures err { IfErr result IsShort }
 {
-    let mut watch = Watch::new(alloc, *setup, Some(goal))?;
+    let mut watch = Watch::new(alloc, *setup, Some(goal))?.with_index();
     match first_lines(alloc, setup, steps, goal, &mut watch) {
         Ok(Some(lines)) => Ok(Some(KeptRun {
             lines,

@@ -28,7 +28,7 @@ pub(crate) fn trial(
     ensures run { IfOk result (λ kept. IfSome kept (λ run. IsRunOf (shows goal.now) setup.now run.lines.items run.world.rehearsal)) }
     ensures err { IfErr result IsShort }
 {
-    let mut watch = Watch::new(alloc, *setup, Some(goal))?;
+    let mut watch = Watch::new(alloc, *setup, Some(goal))?.with_index();
     match kept_lines(alloc, setup, goal, lines, &mut watch) {
         Ok(Some(lines)) => Ok(Some(KeptRun {
             lines,
