@@ -9,5 +9,5 @@ returns-clause-parts c =
     leads_parts (string_bytes c.push_schedule.new.text) (string_bytes c.push_expected.new.text) c.push_schedule.new.stage
     (record_of c.args.setup c.args.steps.now) c.args.goal.now c.in_ok-push_schedule.ensures.leads
     (c.in_ok-push_schedule.ensures.steps
-    ∙ ap (λ (s : Played). record s.rehearsal { steps = c.args.steps.now }) c.in_ok-stage.ensures.ok)
+    ∙ ap (λ (s : Played). record s.rehearsal { steps = c.args.steps.now }) (c.with_index-stage.ensures ∙ c.in_ok-new.ensures.ok))
     c.in_ok-push_expected.ensures.is

@@ -31,9 +31,12 @@ returns-in_err-made-clause-fault g c =
 
 pub returns-in-Ok-clause-ok : goal.returns-in-Ok-clause-ok
 returns-in-Ok-clause-ok g c =
-    record_seen _ (rehearsal_of c.in_ok-script.script) _ c.in_ok-script.ensures.ok
-    (first_of (search rules, grind (arith, common_steps)), c.in_ok-made.made.text.items, c.in_ok-made.ensures.ok,
-    subst (Appends _ _) c.deref.ensures.value c.in-Ok.ensures.bytes)
+    record_seen _ (rehearsal_of c.in_ok-script.script) _ c.in_ok-script.ensures.ok (
+      first_of (search rules, grind (arith, common_steps)),
+      c.in_ok-made.made.text.items,
+      c.in_ok-made.ensures.ok,
+      subst (Appends _ _) c.deref.ensures.value c.in-Ok.ensures.bytes,
+    )
 
 pub returns-clause-part : goal.returns-clause-part
 returns-clause-part g c = λ _.

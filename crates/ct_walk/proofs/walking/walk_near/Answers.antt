@@ -1,6 +1,8 @@
-use Rattle.std.proofs.Common.{◌∙◌, ap, ap₂, option_map}
+use Rattle.std.proofs.Common.{◌≡◌, Ok, Err, IfErr, IsErrAnd, Result, ◌∙◌, ap, ap₂, option_map, subst, sym}
+use Rattle.ct_walk.specs.Faults.{IsShort}
 use Rattle.ct_walk.specs.Nearness.{came}
 use Rattle.ct_walk.specs.Shown.{is_shown_by}
+use Rattle.ct_walk.specs.declared.fault.WalkFault.{WalkFault}
 use Rattle.ct_walk.proofs.Looping.{walked_is}
 use Rattle.ct_walk.proofs.Rounds.{came_is, rounds_are}
 use Rattle.ct_walk.proofs.Untils.{until_is}
@@ -33,3 +35,13 @@ pub returns-clause-rounds : goal.returns-clause-rounds
 returns-clause-rounds c =
     rounds_are c.args.options.now (option_map (λ goal. goal.now) c.args.until) c.in_ok-walker.walker _ _
     c.in_ok-walker.ensures.ok c.most_turns-most.ensures c.in_ok-rounds.ensures.rounds
+
+-- a fault that is handed on
+handed : {T : Type 0} (r : Result T WalkFault) (fault : WalkFault) → IsErrAnd r (λ e. e ≡ fault) → IsShort fault → IfErr r IsShort
+handed (Ok x) fault same h = tt
+handed (Err e) fault same h = subst IsShort (sym same) h
+
+pub returns-in_err-rounds-clause-err : goal.returns-in_err-rounds-clause-err
+returns-in_err-rounds-clause-err c =
+    handed c.from_residual-in_err-rounds.result c.in_err-rounds.field-0.0 c.from_residual-in_err-rounds.ensures.1
+    c.in_err-rounds.ensures.err
