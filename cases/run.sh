@@ -604,6 +604,7 @@ check_by logs.py logs 600 "$tool"
 check_by goals.py goals 600 "$tool"
 check_by search.py search 600 "$tool"
 check_by terminal.py terminal 300 "$tool"
+check_by waiting.py 'lines where much waits' 300 "$ct" "$tool"
 
 check_free_runs 'free runs'
 check_free_runs 'lossy free runs' --lose 20 --repeat 40 --batch 1
