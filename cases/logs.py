@@ -353,10 +353,10 @@ class Growing(NamedTuple):
 
 
 def replaced(path: str) -> None:
-    """Another file has the name."""
-    os.rename(path, path + ".old")
-    with open(path, "w", encoding="utf-8") as file:
+    """Another file has the name, at once."""
+    with open(path + ".new", "w", encoding="utf-8") as file:
         file.write("2 begin\n" * 20)
+    os.replace(path + ".new", path)
 
 
 def shortened(path: str) -> None:
