@@ -10,11 +10,12 @@ ghost use Rattle.ct_complete.specs.Completing.{IsCompleted, IsFaultOn};
 use crate::complete_fault::CompleteFault;
 use crate::obstacle::Obstacle;
 use ct_judge::push_hindrance;
-use ct_listing::{record_line, replay};
+use ct_listing::replay;
 use ct_model::Step;
 use ct_play::{LineFault, Stage};
-use ct_records::Script;
+use ct_records::{ProgramFault, Script, record_line};
 use ct_settled::{Hindrance, complete};
+use ct_told::ShowFault;
 use ct_world::Setup;
 use std::alloc::Global;
 
@@ -27,7 +28,10 @@ pub(crate) fn completed(alloc: Global, script: &Script) -> Result<Vec<u8>, Compl
     drop(replay(alloc, script)?);
     let mut stage = staged(alloc, script.setup(), &script.steps)?;
     match complete(alloc, &mut stage)? {
-        None => Ok(record_line(alloc, stage.world())?),
+        None => match record_line(alloc, stage.world()) {
+            Ok(line) => Ok(line),
+            Err(_) => Err(CompleteFault::Show(ShowFault::Program(ProgramFault::Memory))),
+        },
         Some(hindrance) => Err(CompleteFault::Hindered(told(alloc, &stage, hindrance)?)),
     }
 }

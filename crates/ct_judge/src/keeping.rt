@@ -9,7 +9,7 @@ ghost use Rattle.ct_judging.specs.Standing.{world_of};
 use crate::judge::Judge;
 use crate::keep_fault::KeepFault;
 use ct_play::LineFault;
-use ct_records::write_record;
+use ct_records::record_line;
 use ct_streams::{Failed, NewFiles};
 use ct_world::World;
 use std::alloc::{AllocError, Global};
@@ -49,22 +49,18 @@ fn session_record(alloc: Global, judge: Judge) -> Result<Vec<u8>, KeepFault>
     ensures no_write { IfErr result (λ fault. fault ≢ KeepFault.Write) }
 {
     match judge.into_world() {
-        Ok(world) => Ok(record_line(alloc, &world)?),
+        Ok(world) => Ok(kept_line(alloc, &world)?),
         Err(LineFault::NoMembers) => Err(KeepFault::NoMembers),
         Err(_) => Err(KeepFault::Memory),
     }
 }
 
 // The record of the world and a line feed.
-pub(crate) fn record_line(alloc: Global, world: &World) -> Result<Vec<u8>, AllocError>
+pub(crate) fn kept_line(alloc: Global, world: &World) -> Result<Vec<u8>, AllocError>
     ensures text { IfOk result (λ text. IsKeptIn text.items (Ok world.now.rehearsal)) }
     ensures safe { IsSafeRun world.now.rehearsal }
 {
     // For its clauses: the record is a run, and the state is safe.
     let _ = world.record();
-    let mut text = write_record(alloc, world)?;
-    match text.push(b'\n') {
-        Ok(()) => Ok(text),
-        Err(_) => Err(AllocError),
-    }
+    record_line(alloc, world)
 }

@@ -11,7 +11,7 @@ ghost use Rattle.ct_judging.specs.Schedule.{schedule};
 ghost use Rattle.ct_judging.specs.Standing.{world_of};
 
 use crate::judge::Judge;
-use crate::keeping::record_line;
+use crate::keeping::kept_line;
 use crate::record_fault::RecordFault;
 use crate::recorder::Recorder;
 use crate::recording::{MAX_LEN, read, tell_lines};
@@ -121,7 +121,7 @@ fn part_line(alloc: Global, judge: Judge) -> Result<Vec<u8>, RecordFault>
     ensures err { IfErr result (λ fault. fault ≡ RecordFault.Memory) }
 {
     match judge.into_world() {
-        Ok(world) => Ok(record_line(alloc, &world)?),
+        Ok(world) => Ok(kept_line(alloc, &world)?),
         Err(LineFault::NoMembers) => Ok(Vec::new(alloc)),
         Err(_) => Err(RecordFault::Memory),
     }

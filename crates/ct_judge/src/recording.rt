@@ -11,7 +11,7 @@ ghost use Rattle.ct_judging.specs.Schedule.{schedule};
 use crate::record_fault::RecordFault;
 use crate::recorder::Recorder;
 use ct_grammar::{behind, first_feed};
-use ct_records::write_record;
+use ct_records::record_line;
 use ct_streams::{Failed, InputFault, Sink, Source, read_all, write_all};
 use ct_world::World;
 use std::alloc::Global;
@@ -80,11 +80,7 @@ pub fn recorded(alloc: Global, text: &[u8]) -> Result<Vec<u8>, RecordFault>
         return Err(RecordFault::TooLong);
     }
     let world = played(alloc, text)?;
-    let mut line = write_record(alloc, &world)?;
-    match line.push(b'\n') {
-        Ok(()) => Ok(line),
-        Err(_) => Err(RecordFault::Memory),
-    }
+    Ok(record_line(alloc, &world)?)
 }
 
 // The world that the schedule leads to.

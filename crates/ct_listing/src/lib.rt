@@ -17,4 +17,4 @@ pub use acting::act_of;
 pub use naming::{MOST_SINCE, Naming};
 pub use running::write_schedule;
 pub use words::schedule_command;
-pub use writing::{record_line, replay, schedule_expecting, schedule_of};
+pub use writing::{replay, schedule_expecting, schedule_of};

@@ -1,10 +1,9 @@
 //! From a record to its schedule.
 
-ghost use Rattle.std.specs.Prelude.{◌≡◌, ◌++◌, ◌∷◌, [], length, None, Ok, IfOk, IfErr, OnOk, string_bytes};
+ghost use Rattle.std.specs.Prelude.{◌≡◌, [], length, None, Ok, IfOk, IfErr, OnOk, string_bytes};
 ghost use Rattle.ct_world.specs.Replay.{AllowsFirst};
 ghost use Rattle.ct_world.specs.Setup.{record_of, setting_of};
 ghost use Rattle.ct_records.specs.Replay.{IsAllowed};
-ghost use Rattle.ct_records.specs.Text.{record_text};
 ghost use Rattle.ct_records.specs.View.{rehearsal_of};
 ghost use Rattle.ct_play.specs.Faults.{IsShort};
 ghost use Rattle.ct_grammar.specs.Sides.{whole};
@@ -20,7 +19,7 @@ use crate::lines::push_step;
 use ct_grammar::Goal;
 use ct_model::Step;
 use ct_play::{LineFault, Stage};
-use ct_records::{ProgramFault, Script, write_record};
+use ct_records::{ProgramFault, Script};
 use ct_world::{Setup, World};
 use std::alloc::Global;
 
@@ -69,16 +68,6 @@ pub fn replay(alloc: Global, script: &Script) -> Result<World, ProgramFault>
         &script.steps,
     )?;
     Ok(world)
-}
-
-/// The record of the world and a line feed.
-pub fn record_line(alloc: Global, world: &World) -> Result<Vec<u8>, ProgramFault>
-    ensures text { IfOk result (λ text. text.items ≡ record_text world.now.rehearsal ++ 10 ∷ []) }
-    ensures err { IfErr result (λ fault. fault ≡ ProgramFault.Memory) }
-{
-    let mut text = write_record(alloc, world)?;
-    text.push(b'\n')?;
-    Ok(text)
 }
 
 // The schedule of these steps, which are all allowed.

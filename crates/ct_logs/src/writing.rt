@@ -1,14 +1,13 @@
 //! From a run to its text.
 
-ghost use Rattle.std.specs.Prelude.{◌≡◌, ◌++◌, ◌∷◌, [], IfOk};
-ghost use Rattle.ct_records.specs.Text.{record_text};
+ghost use Rattle.std.specs.Prelude.{◌≡◌, IfOk};
 ghost use Rattle.ct_records.specs.View.{rehearsal_of};
 ghost use Rattle.ct_listing.specs.Listing.{IsScheduleOf};
 ghost use Rattle.ct_logs.specs.Writing.{IsTextOf};
 
 use crate::form::Form;
 use ct_listing::schedule_of;
-use ct_records::{Script, write_record};
+use ct_records::{Script, record_line};
 use ct_world::World;
 use std::alloc::{AllocError, Global};
 
@@ -18,7 +17,7 @@ pub(crate) fn written(alloc: Global, world: World, form: Form) -> Result<Vec<u8>
 {
     match form {
         Form::Record => {
-            let text = recorded(alloc, &world);
+            let text = record_line(alloc, &world);
             drop(world);
             text
         }
@@ -27,17 +26,6 @@ pub(crate) fn written(alloc: Global, world: World, form: Form) -> Result<Vec<u8>
             drop(world);
             scheduled(alloc, script?)
         }
-    }
-}
-
-// The record and a line feed.
-fn recorded(alloc: Global, world: &World) -> Result<Vec<u8>, AllocError>
-    ensures { IfOk result (λ text. text.items ≡ record_text world.now.rehearsal ++ 10 ∷ []) }
-{
-    let mut text = write_record(alloc, world)?;
-    match text.push(b'\n') {
-        Ok(()) => Ok(text),
-        Err(_) => Err(AllocError),
     }
 }
 

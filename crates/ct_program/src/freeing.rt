@@ -11,7 +11,7 @@ use crate::planning::plan;
 use ct_board::Board;
 use ct_detect::Detector;
 use ct_names::Group;
-use ct_records::{ProgramFault, write_record};
+use ct_records::{ProgramFault, record_line};
 use ct_rehearse::{NoGate, RehearseFault, Rehearsed, RunFault, rehearse};
 use ct_streams::{Failed, Sink, write_all};
 use ct_world::World;
@@ -107,9 +107,5 @@ fn line_of(alloc: Global, options: &FreeOptions, done: &Rehearsed) -> Result<Vec
     }
     // For its clauses: the record is a run, and the state is safe.
     let _ = world.record();
-    let mut text = write_record(alloc, world)?;
-    if text.push(b'\n').is_err() {
-        return Err(ProgramFault::Memory);
-    }
-    Ok(text)
+    Ok(record_line(alloc, world)?)
 }

@@ -29,4 +29,4 @@ pub use reading::{MAX_LEN, read_record};
 pub use replaying::run_replay;
 pub use reporting::report;
 pub use script::Script;
-pub use writing::write_record;
+pub use writing::{record_line, write_record};

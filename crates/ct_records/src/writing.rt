@@ -1,6 +1,6 @@
 //! From a world to the text of its record.
 
-ghost use Rattle.std.specs.Prelude.{◌≡◌, Ok, OnOk, IfOk};
+ghost use Rattle.std.specs.Prelude.{◌≡◌, ◌++◌, ◌∷◌, [], Ok, OnOk, IfOk};
 ghost use Rattle.ct_text.specs.Adds.{Adds};
 ghost use Rattle.ct_model.specs.StepText.{step_text};
 ghost use Rattle.ct_records.specs.Fits.{StepFits, AllFit, IsStorable};
@@ -21,7 +21,18 @@ pub fn write_record(alloc: Global, world: &World) -> Result<Vec<u8>, AllocError>
     record_bytes(alloc, world)
 }
 
-// The same, and that the record is one that a text can hold.
+/// The same and a line feed.
+pub fn record_line(alloc: Global, world: &World) -> Result<Vec<u8>, AllocError>
+    ensures { IfOk result (λ line. line.items ≡ record_text world.now.rehearsal ++ 10 ∷ []) }
+{
+    let mut line = write_record(alloc, world)?;
+    match line.push(b'\n') {
+        Ok(()) => Ok(line),
+        Err(_) => Err(AllocError),
+    }
+}
+
+// The record, and that it is one that a text can hold.
 #[tactic(auto, unfolding(crate::specs::Text::record_text))]
 fn record_bytes(alloc: Global, world: &World) -> Result<Vec<u8>, AllocError>
     ensures text { IfOk result (λ bytes. bytes.items ≡ record_text world.now.rehearsal) }

@@ -6,8 +6,8 @@ ghost use Rattle.ct_shrink.specs.Texts.{IsTextOf};
 
 use crate::options::Form;
 use ct_grammar::Goal;
-use ct_listing::{record_line, schedule_expecting};
-use ct_records::{ProgramFault, Script};
+use ct_listing::schedule_expecting;
+use ct_records::{ProgramFault, Script, record_line};
 use ct_world::World;
 use std::alloc::{AllocError, Global};
 
@@ -25,7 +25,7 @@ pub(crate) fn written(
         Form::Record => {
             let text = record_line(alloc, &world);
             drop(world);
-            text
+            Ok(text?)
         }
         Form::Schedule => scheduled(alloc, world, goal),
     }

@@ -17,7 +17,7 @@ use crate::options::WalkOptions;
 use crate::sight::sight_in;
 use crate::walking::walk_near;
 use ct_grammar::Goal;
-use ct_records::write_record;
+use ct_records::record_line;
 use ct_streams::{Failed, Sink, write_all};
 use ct_world::World;
 use std::alloc::Global;
@@ -128,9 +128,5 @@ fn line_of(alloc: Global, world: &World) -> Result<Vec<u8>, WalkFault>
 {
     // For its clauses: the record is a run, and the state is safe.
     let _ = world.record();
-    let mut text = write_record(alloc, world)?;
-    if text.push(b'\n').is_err() {
-        return Err(WalkFault::Memory);
-    }
-    Ok(text)
+    Ok(record_line(alloc, world)?)
 }
