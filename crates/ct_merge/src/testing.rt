@@ -88,7 +88,7 @@ impl Walk {
     {
         Ok(Walk {
             alloc,
-            stage: Stage::new(alloc, setup)?,
+            stage: Stage::new(alloc, setup)?.with_index(),
             taken: Tally::new(),
             tested: Tally::new(),
         })
