@@ -9,7 +9,7 @@ lines in every order that the rules allow:
 accepted    some order takes all lines.
 refused     none does, and in some order that gets no further a log stands at a line that the rules refuse, or that isn't as it is stated;
             or waits for what its sender can't send any more; or in a circle of logs that wait for each other.
-cut         none does, and each log that stands waits, over others, for a log that has ended and whose member might send on.
+incomplete  none does, and each log that stands waits, over others, for a log that has ended and whose member might send on.
 
 Prints how many sets have each verdict, and each difference. Ends with status 1 where there is one, or where two orders of a set that get
 no further get to other lines.
@@ -27,7 +27,7 @@ sys.dont_write_bytecode = True
 import model  # noqa: E402
 
 TOOL = os.path.join(os.path.dirname(os.path.abspath(__file__)), "..", "crates", "ct_tool", "out", "ct_tool")
-STATUSES = {0: "accepted", 1: "refused", 6: "cut"}
+STATUSES = {0: "accepted", 1: "refused", 6: "incomplete"}
 SECONDS = 20
 LINES = {2: 56, 3: 32}   # of a run of so many members, less than these
 CELLS = 64
@@ -160,7 +160,7 @@ def verdict(n, logs):
     if any(not stuck for _, stuck in ends):
         return "accepted", places
     is_cut = all(ends_cut(state, stuck, logs, p) for state, stuck in ends for p in stuck)
-    return "cut" if is_cut else "refused", places
+    return "incomplete" if is_cut else "refused", places
 
 
 def ends_cut(state, stuck, logs, p):

@@ -70,9 +70,9 @@ CASES = [
     Case("a crashed sender", {"1.log": "submit set 0 7\ncrash\n", "2.log": "receive est 1/1 from 1\n"}, 1,
          "refused: 2.log line 1: receive est 1/1 from 1: it was not sent before, and member 1 can't send it any more"),
     Case("a log that ends too early", {"1.log": "members 2\n", "2.log": "receive data 1.1 from 1\n"}, 6,
-         "cut: 2.log line 1: receive data 1.1 from 1: the log of member 1 ends before it is sent"),
+         "incomplete: 2.log line 1: receive data 1.1 from 1: the log of member 1 ends before it is sent"),
     Case("a log that isn't there", {"1.log": "members 3\n", "2.log": "receive data 3.1 from 3\n"}, 6,
-         "cut: 2.log line 1: receive data 3.1 from 3: there is no log of member 3"),
+         "incomplete: 2.log line 1: receive data 3.1 from 3: there is no log of member 3"),
     Case("each waits for the other",
          {"1.log": "receive data 2.1 from 2\nsubmit set 0 1\n", "2.log": "receive data 1.1 from 1\nsubmit set 0 2\n"}, 1,
          "refused: 1.log line 1: receive data 2.1 from 2: it waits for a line that waits for it\n"
@@ -160,7 +160,7 @@ CASES = [
          "refused: 2.log line 7: receive ack 1/1 from 1: it was not sent before, and member 1 can't send it any more: "
          "it sent nack 1/1 instead (1.log line 6)"),
     Case("an ack that may still come", {"1.log": ONE + "receive prop 1/1 from 2\n", "2.log": TWO + "receive ack 1/1 from 1\n"}, 6,
-         "cut: 2.log line 7: receive ack 1/1 from 1: the log of member 1 ends before it is sent"),
+         "incomplete: 2.log line 7: receive ack 1/1 from 1: the log of member 1 ends before it is sent"),
     Case("a decision without a cell", {"1.log": "members 1\ncells 0\n" + ALONE}, 8,
          "limit: 1.log line 14: deliver: member 1 is refused Full(Cells): no cell is left; cells 1024 at the top of a log gives room for "
          "more; it accuses nobody"),
@@ -207,7 +207,7 @@ BESIDES = [
     Case("a line that a log ends before, and one that no line sends",
          {"1.log": "members 4\nbegin\n", "2.log": "receive data 3.1 from 3\n", "4.log": "4 receive data 1.1 from 1\n"}, 1,
          "refused: 1.log line 2: begin: member 1 is refused Nothing\n"
-         "also cut: 2.log line 1: receive data 3.1 from 3: there is no log of member 3\n"
+         "also incomplete: 2.log line 1: receive data 3.1 from 3: there is no log of member 3\n"
          "waits: 4.log line 1: 4 receive data 1.1 from 1: no line of 1.log sends it"),
     Case("three lines that are refused, each as another is stated",
          {"1.log": "members 3\nsubmit set 0 7\nreceive data 1.1 from 1 set 0 1\n", "2.log": "receive data 1.1 from 1 set 0 2\n",
@@ -270,11 +270,11 @@ EXPECTED = [
          "refused: 1.log line 3: expect round 1: expected round 1, there is idle"),
     Case("one behind the line that is refused", {"1.log": "members 2\nbegin\nexpect round 1\n"}, 1,
          "refused: 1.log line 2: begin: member 1 is refused Nothing"),
-    Case("an expectation before the line that is cut",
+    Case("an expectation before the line that is incomplete",
          {"1.log": "members 2\n", "2.log": "expect received 1.1\nreceive data 1.1 from 1\n"}, 1,
          "refused: 2.log line 1: expect received 1.1: expected received 1.1, there is -"),
-    Case("one behind the line that is cut", {"1.log": "members 2\n", "2.log": "receive data 1.1 from 1\nexpect received -\n"}, 6,
-         "cut: 2.log line 1: receive data 1.1 from 1: the log of member 1 ends before it is sent"),
+    Case("one behind the line that is incomplete", {"1.log": "members 2\n", "2.log": "receive data 1.1 from 1\nexpect received -\n"}, 6,
+         "incomplete: 2.log line 1: receive data 1.1 from 1: the log of member 1 ends before it is sent"),
     Case("an expectation that does not hold, and a torn line", {"1.log": "members 1\nexpect crashed\nsubmit set"}, 1,
          "refused: 1.log line 2: expect crashed: expected crashed, there is up\n"
          "note: 1.log line 3: submit set: no line feed ends it, so it is left out"),
@@ -298,15 +298,15 @@ PRESUMED = [
          "presumed: 1 step of member 1; 2 members, 2 lines; instances 0, largest round 0, suspicions 0, choices between different ts 0, "
          "repetitions 0", PRESUME),
     Case("a submission of which the command is stated nowhere", {"1.log": "members 2\n", "2.log": "receive data 1.1 from 1\n"}, 6,
-         "cut: 2.log line 1: receive data 1.1 from 1: the log of member 1 ends before it is sent", PRESUME),
+         "incomplete: 2.log line 1: receive data 1.1 from 1: the log of member 1 ends before it is sent", PRESUME),
     Case("a message that nobody received, and of which no command is stated",
          {"1.log": "members 3\nsubmit copy 12 1\n", "2.log": "receive data 1.1 from 1\nreceive data 3.2 from 3 set 0 7\n"}, 7,
          "presumed: 2 steps of member 3; 3 members, 5 lines; instances 0, largest round 0, suspicions 0, choices between different ts 0, "
          "repetitions 0", PRESUME),
     Case("a message of which two commands are stated",
          {"1.log": "members 3\n", "2.log": "receive data 1.1 from 1 set 0 7\n", "3.log": "receive data 1.1 from 1 set 0 8\n"}, 6,
-         "cut: 3.log line 1: receive data 1.1 from 1 set 0 8: the log of member 1 ends before it is sent\n"
-         "also cut: 2.log line 1: receive data 1.1 from 1 set 0 7: the log of member 1 ends before it is sent", PRESUME),
+         "incomplete: 3.log line 1: receive data 1.1 from 1 set 0 8: the log of member 1 ends before it is sent\n"
+         "also incomplete: 2.log line 1: receive data 1.1 from 1 set 0 7: the log of member 1 ends before it is sent", PRESUME),
     Case("a message that a member without a log passes on",
          {"1.log": "members 3\nsubmit set 0 7\nreceive data 1.1 from 1\n", "3.log": "3 receive data 1.1 from 2\n"}, 7,
          "presumed: 1 step of member 2; 3 members, 4 lines; instances 0, largest round 0, suspicions 0, choices between different ts 0, "
@@ -334,7 +334,7 @@ PRESUMED = [
          "presumed: 7 steps of member 1; 3 members, 138 lines; instances 3, largest round 4, suspicions 3, choices between different ts 0, "
          "repetitions 8", PRESUME),
     Case("the same without --presume", lost_tail(), 6,
-         "cut: 2.log line 8: 2 receive est 1/1 from 1 {3.1} ts 0: the log of member 1 ends before it is sent\n"
+         "incomplete: 2.log line 8: 2 receive est 1/1 from 1 {3.1} ts 0: the log of member 1 ends before it is sent\n"
          "waits: 3.log line 9: 3 receive prop 1/1 from 2 {3.1}: it waits for 2.log line 9: 2 choose 1 {3.1}"),
     Case("ends that are presumed of logs that are followed", GOSSIP, 3,
          "error: the argument '--presume' cannot be used with '--follow'\n\nUsage: ct_tool merge --presume <LOG>...\n\n"
@@ -377,7 +377,7 @@ GROWING = [
             ("--idle", "1"), 1,
             "refused: 2.log line 1: 2 receive data 1.2 from 1: it was not sent before, and member 1 can't send it any more"),
     Growing("a log that ends too early", {**GOSSIP, "2.log": "2 receive data 1.2 from 1\n"}, [], ("--idle", "1"), 6,
-            "cut: 2.log line 1: 2 receive data 1.2 from 1: the log of member 1 ends before it is sent"),
+            "incomplete: 2.log line 1: 2 receive data 1.2 from 1: the log of member 1 ends before it is sent"),
     Growing("a torn line that is completed", {**GOSSIP, "2.log": "2 receive data 1.1 fr"},
             [("2.log", "om 1 set 0 7\n")], ("--idle", "1"), 0,
             "accepted: 2 members, 3 lines; instances 0, largest round 0, suspicions 0, choices between different ts 0, repetitions 0"),
@@ -554,7 +554,7 @@ def faults_of_search(tool: str) -> List[str]:
     program = os.path.join(HERE, "..", "bench", "merge_search.py")
     done = ran([sys.executable, program, "--tool", tool, "--sets", str(SETS)], HERE, SECONDS_OF_RUNS)
     last = (done.stdout.decode().splitlines() or [done.stderr.decode()])[-1]
-    return [] if re.fullmatch(r"[1-9]\d* accepted, [1-9]\d* refused, [1-9]\d* cut; 0 differences", last) else [last]
+    return [] if re.fullmatch(r"[1-9]\d* accepted, [1-9]\d* refused, [1-9]\d* incomplete; 0 differences", last) else [last]
 
 
 def main() -> int:

@@ -3,7 +3,7 @@
 
     run.py [--members N] [--kill K] [--runs R] [--break NAME] [--keep DIR] [options]
 
-Tells a line a run. Ends with status 0 where all logs are accepted, 1 where some are refused, else 6 where some are cut, 8 where some
+Tells a line a run. Ends with status 0 where all logs are accepted, 1 where some are refused, else 6 where some are incomplete, 8 where some
 meet a limit of the judge, 2 where a member or the judge fails.
 """
 from __future__ import annotations
@@ -24,7 +24,7 @@ HERE = os.path.dirname(os.path.abspath(__file__))
 TOOL = os.path.join(HERE, "..", "..", "crates", "ct_tool", "out", "ct_tool")
 SECONDS_MORE = 10         # that a member may take longer than it is to run
 SECONDS_OF_JUDGE = 60
-VERDICTS = {0: "accepted", 1: "refused", 6: "cut", 8: "limit"}
+VERDICTS = {0: "accepted", 1: "refused", 6: "incomplete", 8: "limit"}
 PASSED_ON = ("seconds", "submit", "batch", "delay", "loss", "timeout", "growth", "written", "stated", "broken")
 
 

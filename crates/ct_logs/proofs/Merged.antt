@@ -22,7 +22,7 @@ use Rattle.ct_merge.specs.declared.log_line.LogLine.{LogLine}
 use Rattle.ct_merge.specs.declared.stopped_lines.StoppedLines.{StoppedLines}
 use Rattle.ct_merge.specs.declared.verdict.Culprit.{Culprit}
 use Rattle.ct_merge.specs.declared.verdict.Verdict.{Verdict}
-use Rattle.ct_merge.specs.declared.verdict.Verdict.TheVariants.{Accepted, Refused, Cut, Limited}
+use Rattle.ct_merge.specs.declared.verdict.Verdict.TheVariants.{Accepted, Refused, Incomplete, Limited}
 use Rattle.ct_presume.proofs.GoingOn.{cut_ended, cut_none}
 use Rattle.ct_logs.specs.Files.{AreTextsIn, IsTooLong, Known}
 use Rattle.ct_logs.specs.Groups.{AreLogsIn, AreNoLogs, HaveLogs, HaveNoLogs, Logs}
@@ -88,7 +88,7 @@ stand_first r setup first more are h =
     IfOk-weaker r _ _ (λ judged stopped. IfSome_then judged.stopped stopped (λ lines is. (first, are, is))) h
 
 -- the reason of a line says which verdict it is
-limited_by : (c : Culprit) (ends limits : Bool) → Limited c ≡ (if ends then Cut c else if limits then Limited c else Refused c) →
+limited_by : (c : Culprit) (ends limits : Bool) → Limited c ≡ (if ends then Incomplete c else if limits then Limited c else Refused c) →
     limits ≡ true
 limited_by c false true e = refl
 limited_by c _ _ e = absurd (cc)
@@ -107,7 +107,7 @@ module _ (presumes : Bool) (logs : Logs) (more : List (Vec LogLine)) (go_on : Go
   verdict_as : (v : Verdict) → ComesTo logs.setup logs.lines more v → IsVerdictOf presumes logs v
   verdict_as (Accepted world) is = record { setting = is.setting; cells = is.cells; lines = more; go_on = go_on; merged = is.merged }
   verdict_as (Refused culprit) is = is.refused
-  verdict_as (Cut culprit) is =
+  verdict_as (Incomplete culprit) is =
       record {
         stands = record { culprit = culprit; is = is.culprit; why = cut_ended culprit is.told };
         none = cut_none (setting_of logs.setup) logs.lines culprit is.told is.none;
@@ -177,7 +177,7 @@ pub no_logs_as : (R : Type 0) (such : Logs → Type 0) (presumes : Bool) (fault 
     IsFaultOf R such presumes fault
 no_logs_as R such presumes (faults.NoLogs text) h = h
 no_logs_as R such presumes (faults.Refused text) h = absurd h
-no_logs_as R such presumes (faults.Cut text) h = absurd h
+no_logs_as R such presumes (faults.Incomplete text) h = absurd h
 no_logs_as R such presumes (faults.Limit text) h = absurd h
 no_logs_as R such presumes fault h = h
 
@@ -215,7 +215,7 @@ module _ (presumes : Bool) (logs : Logs) where
       halt_as : (v : Verdict) → IsVerdictOf presumes logs v → (fault : MergeFault) → IsHaltFault v fault →
           IsFaultOf R such presumes fault
       halt_as (Refused culprit) is (faults.Refused text) h = (logs, are, inl is)
-      halt_as (Cut culprit) is (faults.Cut text) h = (logs, are, is)
+      halt_as (Incomplete culprit) is (faults.Incomplete text) h = (logs, are, is)
       halt_as (Limited culprit) is (faults.Limit text) h = (logs, are, is)
       halt_as v is fault h = silent_as fault h
 
@@ -265,7 +265,7 @@ module _ (bytes : Known) (names texts : List (List ℕ)) (read : AreTextsIn byte
       IsFaultIn bytes names presumes fault
   files_fault (faults.NoLogs text) h = inr (record { texts = texts; read = read; none = h })
   files_fault (faults.Refused text) h = (h.0, record { texts = texts; read = read; said = h.1 }, h.2)
-  files_fault (faults.Cut text) h = (h.0, record { texts = texts; read = read; said = h.1 }, h.2)
+  files_fault (faults.Incomplete text) h = (h.0, record { texts = texts; read = read; said = h.1 }, h.2)
   files_fault (faults.Limit text) h = (h.0, record { texts = texts; read = read; said = h.1 }, h.2)
   files_fault fault h = h
 

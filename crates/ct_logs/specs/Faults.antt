@@ -4,13 +4,13 @@ use Rattle.ct_streams.specs.declared.status.Status.TheVariants as status
 use Rattle.ct_streams.specs.Statuses.{code}
 use Rattle.ct_logs.specs.declared.merge_fault.MergeFault.{MergeFault}
 use Rattle.ct_logs.specs.declared.told.Told.{Told}
-use Rattle.ct_logs.specs.declared.merge_fault.MergeFault.TheVariants.{Refused, Cut, Limit, NoLogs, Twice, File, Changed, Write}
+use Rattle.ct_logs.specs.declared.merge_fault.MergeFault.TheVariants.{Refused, Incomplete, Limit, NoLogs, Twice, File, Changed, Write}
 use Rattle.ct_logs.specs.declared.merge_fault.MergeFault.TheVariants.{Memory, Board}
 
--- logs that are cut have a status of their own, and so has a limit
+-- logs that are incomplete have a status of their own, and so has a limit
 abbrev pub status_of : MergeFault → ℕ
 status_of (Refused text) = code status.Refused
-status_of (Cut text) = 6
+status_of (Incomplete text) = 6
 status_of (Limit text) = 8
 status_of (NoLogs text) = code status.NoRecord
 status_of Twice = code status.Words

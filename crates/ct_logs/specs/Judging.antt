@@ -15,7 +15,7 @@ use Rattle.ct_merge.specs.declared.stopped_lines.StoppedLines.{StoppedLines}
 use Rattle.ct_merge.specs.declared.testing.Unmet.{Unmet}
 use Rattle.ct_merge.specs.declared.verdict.Culprit.{Culprit}
 use Rattle.ct_merge.specs.declared.verdict.Verdict.{Verdict}
-use Rattle.ct_merge.specs.declared.verdict.Verdict.TheVariants.{Accepted, Refused, Cut, Limited}
+use Rattle.ct_merge.specs.declared.verdict.Verdict.TheVariants.{Accepted, Refused, Incomplete, Limited}
 use Rattle.ct_merge.specs.declared.verdict.Why.{Why}
 use Rattle.ct_logs.specs.Groups.{Logs}
 use Rattle.ct_logs.specs.Sets.{AreLogsOf, LogsSoFar}
@@ -75,7 +75,7 @@ abbrev pub AreRefused : Logs → Type 0
 AreRefused logs = NeverMerges (setting_of logs.setup) logs.lines
 
 -- a line waits for a log that has ended, and no run of the group is a merge of the logs as they are
-pub record AreCut (logs : Logs) : Type 0 where
+pub record AreIncomplete (logs : Logs) : Type 0 where
   pub stands : StandsAt logs is_ended
   pub none : HasNoMerge (setting_of logs.setup) logs.lines
 
@@ -102,7 +102,7 @@ logs_in setup s =
 abbrev pub IsVerdictOf : Bool → Logs → Verdict → Type 0
 IsVerdictOf presumes logs (Accepted world) = IsMergeOf presumes logs world.rehearsal
 IsVerdictOf presumes logs (Refused culprit) = AreRefused logs
-IsVerdictOf presumes logs (Cut culprit) = AreCut logs
+IsVerdictOf presumes logs (Incomplete culprit) = AreIncomplete logs
 IsVerdictOf presumes logs (Limited culprit) = AreLimited logs
 
 -- this is what the logs come to, and where they stand
@@ -148,7 +148,7 @@ EndsWith form verdict expected text = IsMetBy verdict expected × IsTextOfVerdic
 -- a fault that says that logs come to this, or is silent
 abbrev pub IsHaltFault : Verdict → MergeFault → Type 0
 IsHaltFault (Refused culprit) (faults.Refused text) = ⊤
-IsHaltFault (Cut culprit) (faults.Cut text) = ⊤
+IsHaltFault (Incomplete culprit) (faults.Incomplete text) = ⊤
 IsHaltFault (Limited culprit) (faults.Limit text) = ⊤
 IsHaltFault verdict fault = IsSilent fault
 
@@ -165,6 +165,6 @@ EndsAs judged expected fault = IsHaltFault judged.verdict fault ⊎ IsUnmetFault
 abbrev pub IsFaultOf : Type 0 → (Logs → Type 0) → Bool → MergeFault → Type 0
 IsFaultOf reason such presumes (faults.NoLogs text) = reason
 IsFaultOf reason such presumes (faults.Refused text) = (logs : Logs) × such logs × (AreRefused logs ⊎ AreUnmet presumes logs)
-IsFaultOf reason such presumes (faults.Cut text) = (logs : Logs) × such logs × AreCut logs
+IsFaultOf reason such presumes (faults.Incomplete text) = (logs : Logs) × such logs × AreIncomplete logs
 IsFaultOf reason such presumes (faults.Limit text) = (logs : Logs) × such logs × AreLimited logs
 IsFaultOf reason such presumes fault = IsSilent fault

@@ -76,10 +76,10 @@ fn ended(alloc: Global, judged: Judged, form: Form, told: String) -> Result<Acce
             drop(presumed);
             Err(MergeFault::Refused(told))
         }
-        Verdict::Cut(culprit) => {
+        Verdict::Incomplete(culprit) => {
             drop(culprit);
             drop(presumed);
-            Err(MergeFault::Cut(told))
+            Err(MergeFault::Incomplete(told))
         }
         Verdict::Limited(culprit) => {
             drop(culprit);
@@ -123,7 +123,7 @@ fn unmet_in(
 fn verdict_in(alloc: Global, sources: Sources<'_>, judged: &Judged) -> Result<String, AllocError> {
     match &judged.verdict {
         Verdict::Accepted(_) => torn_of(alloc, sources),
-        Verdict::Refused(culprit) | Verdict::Cut(culprit) | Verdict::Limited(culprit) => {
+        Verdict::Refused(culprit) | Verdict::Incomplete(culprit) | Verdict::Limited(culprit) => {
             told_of(alloc, sources, culprit, judged.stopped.as_ref())
         }
     }

@@ -8,7 +8,7 @@ use std::alloc::AllocError;
 use thiserror::Error;
 
 // The status where a log would have to go on. No other command ends with it.
-const CUT: u8 = 6;
+const INCOMPLETE: u8 = 6;
 
 // The status where a limit is in the way. No other command ends with it.
 const LIMIT: u8 = 8;
@@ -20,8 +20,8 @@ pub enum MergeFault {
     #[error("refused: {0}")]
     Refused(String),
     /// A log would have to go on.
-    #[error("cut: {0}")]
-    Cut(String),
+    #[error("incomplete: {0}")]
+    Incomplete(String),
     /// A limit is in the way, which accuses nobody.
     #[error("limit: {0}")]
     Limit(String),
@@ -52,11 +52,11 @@ impl Fault for MergeFault {
     ghost ends_with = { λ fault. status_of fault };
 
     // 1 for logs that are refused, 2 for files that are no logs, 3 for words, 4 for a stream, 5 for memory and the board, 6 for
-    // logs that are cut, 8 for a limit.
+    // logs that are incomplete, 8 for a limit.
     fn status(&self) -> u8 {
         match self {
             MergeFault::Refused(_) => Status::Refused.code(),
-            MergeFault::Cut(_) => CUT,
+            MergeFault::Incomplete(_) => INCOMPLETE,
             MergeFault::Limit(_) => LIMIT,
             MergeFault::NoLogs(_) => Status::NoRecord.code(),
             MergeFault::Twice => Status::Words.code(),

@@ -100,7 +100,7 @@ fn push_also(
 // What stands before a line that stands for this reason.
 fn word_of(why: &Why) -> &'static str {
     match why {
-        Why::Ended(_) => "\nalso cut: ",
+        Why::Ended(_) => "\nalso incomplete: ",
         _ if why.is_limit() => "\nalso limit: ",
         _ => "\nalso refused: ",
     }

@@ -45,7 +45,7 @@ pub fn merge_logs<F: Files, P: Pace + Drop, W: Sink>(
         WritesOneInPart (IsRunBy (F.bytes files.now) (map (λ name. name.now) names.now) way) form
         (W.written writer.old) (W.written writer.new) }
     // Where it is told, files that are not followed have logs of no group or too many bytes, or logs of which no run is a merge, whatever
-    // lines they go on with, or which expect what is not so; that are cut; or in which a limit is in the way of a line.
+    // lines they go on with, or which expect what is not so; that are incomplete; or in which a limit is in the way of a line.
     ensures fault { IfErr result (λ fault. fault ≢ MergeFault.Write →
         IsFaultBy (F.bytes files.now) (map (λ name. name.now) names.now) way fault) }
     ensures quiet { IfErr result (λ fault. fault ≢ MergeFault.Write → writer.new ≡ writer.old) }

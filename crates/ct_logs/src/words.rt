@@ -29,7 +29,7 @@ else in the end: once each log ends with a crash, or after S seconds without a
 line. A file that is replaced, removed or truncated ends it, with status 4. ^C
 ends it, with nothing told.
 
-With --presume members go on behind logs that are cut, so that they send what
+With --presume members go on behind incomplete logs, so that they send what
 others received. How many steps of whom are presumed is told; it isn't known
 that they were these.
 
@@ -45,8 +45,8 @@ Status:
   3  the words of the command line are refused
   4  a read or a write failed
   5  memory was refused
-  6  the logs are cut: one of them would have to go on
-  7  the logs are cut, and a run was written in which they go on (--presume)
+  6  the logs are incomplete: one of them would have to go on
+  7  they are incomplete, and a run was written in which they go on (--presume)
   8  a limit of what is judged is met, which accuses nobody";
 
 /// The subcommand `merge`.
@@ -90,7 +90,7 @@ fn presume<'a>(alloc: Global) -> Result<Arg<'a>, AllocError>
         alloc,
         "presume",
         concat!(
-            "Where the logs are cut: takes their ends to be lost,\n",
+            "Where the logs are incomplete: takes their ends to be lost,\n",
             "and what others received as sent behind them",
         ),
     )

@@ -4,18 +4,18 @@ use Rattle.ct_merge.proofs.Common.{IsTakenFrom, Taken, IsCulprit, IsCulpritAt, h
 use Rattle.ct_merge.proofs.Common.{is_limit, is_wait, LogLine, OwnFault, Culprit}
 use Rattle.ct_merge.specs.Verdicts.{IfAccepted, IfRefused, IfStopped, verdict_at}
 use Rattle.ct_merge.specs.declared.verdict.Verdict.{Verdict}
-use Rattle.ct_merge.specs.declared.verdict.Verdict.TheVariants.{Refused, Cut, Limited}
+use Rattle.ct_merge.specs.declared.verdict.Verdict.TheVariants.{Refused, Incomplete, Limited}
 use Rattle.ct_merge.proofs.Circles.{refused_none}
 use Rattle.ct_merge.proofs.Standing.{some_waits}
 use Rattle.ct_merge.proofs.Held.{waiting_none}
 
 -- what is so of each verdict that its reason allows
-by_reason : (P : Verdict → Type 0) (c : Culprit) (v : Verdict) → v ≡ verdict_at c → P (Cut c) → P (Limited c) →
+by_reason : (P : Verdict → Type 0) (c : Culprit) (v : Verdict) → v ≡ verdict_at c → P (Incomplete c) → P (Limited c) →
     (is_ended c.why ≡ false → is_limit c.why ≡ false → P (Refused c)) → P v
 by_reason P c v e cut limited refused = subst P (sym e) (by_tests (is_ended c.why) refl (is_limit c.why) refl)
   where
     by_tests : (ends : Bool) → is_ended c.why ≡ ends → (limits : Bool) → is_limit c.why ≡ limits →
-        P (if ends then Cut c else if limits then Limited c else Refused c)
+        P (if ends then Incomplete c else if limits then Limited c else Refused c)
     by_tests true _ limits _ = cut
     by_tests false _ true _ = limited
     by_tests false here false free = refused here free

@@ -4,7 +4,7 @@ use Rattle.ct_model.specs.Rehearsal.{Rehearsal}
 use Rattle.ct_merge.specs.Waits.{is_ended, is_limit}
 use Rattle.ct_merge.specs.declared.verdict.Culprit.{Culprit}
 use Rattle.ct_merge.specs.declared.verdict.Verdict.{Verdict}
-use Rattle.ct_merge.specs.declared.verdict.Verdict.TheVariants.{Accepted, Refused, Cut, Limited}
+use Rattle.ct_merge.specs.declared.verdict.Verdict.TheVariants.{Accepted, Refused, Incomplete, Limited}
 
 -- of the record, where the logs were merged into one
 abbrev pub IfAccepted : Verdict → (Rehearsal → Type 0) → Type 0
@@ -15,7 +15,7 @@ IfAccepted _ fact = ⊤
 abbrev pub IfStopped : Verdict → (Culprit → Type 0) → Type 0
 IfStopped (Accepted world) fact = ⊤
 IfStopped (Refused culprit) fact = fact culprit
-IfStopped (Cut culprit) fact = fact culprit
+IfStopped (Incomplete culprit) fact = fact culprit
 IfStopped (Limited culprit) fact = fact culprit
 
 -- of that line, where they are refused
@@ -26,4 +26,4 @@ IfRefused _ fact = ⊤
 -- which verdict it is where logs stand at this line: its reason says it
 abbrev pub verdict_at : Culprit → Verdict
 verdict_at culprit =
-    if is_ended culprit.why then Cut culprit else if is_limit culprit.why then Limited culprit else Refused culprit
+    if is_ended culprit.why then Incomplete culprit else if is_limit culprit.why then Limited culprit else Refused culprit

@@ -32,7 +32,7 @@ pub fn merge(alloc: Global, setup: Setup, logs: &[Vec<LogLine>]) -> Result<Verdi
     ensures cells { IfOk result (λ verdict. IfAccepted verdict (λ w. w.cells ≡ setup.cells)) }
     // A line that is told of is the next one of its log behind a run of the group, and is not taken there.
     ensures culprit { IfOk result (λ verdict. IfStopped verdict (IsCulprit (setting_of setup) setup.cells logs.now)) }
-    // Its reason says which verdict it is: logs are cut at a log that has ended, limited by a limit, and refused for all else.
+    // Its reason says which verdict it is: logs are incomplete at a log that has ended, limited by a limit, and refused for all else.
     ensures told { IfOk result (λ verdict. IfStopped verdict (λ culprit. verdict ≡ verdict_at culprit)) }
     // Where they are refused, no run of the group is a merge of logs that begin with these.
     ensures refused { IfOk result (λ verdict. IfRefused verdict (λ culprit. NeverMerges (setting_of setup) logs.now)) }

@@ -16,7 +16,7 @@ pub enum Verdict {
     /// No order of these logs was found to be a run, whatever lines they go on with.
     Refused(Culprit),
     /// None was found as they stand: the log of the sender would have to go on.
-    Cut(Culprit),
+    Incomplete(Culprit),
     /// A limit is in the way of this line, which accuses nobody.
     Limited(Culprit),
 }
@@ -27,7 +27,7 @@ impl Verdict {
         ensures { result ≡ verdict_at culprit }
     {
         match &culprit.why {
-            Why::Ended(_) => Verdict::Cut(culprit),
+            Why::Ended(_) => Verdict::Incomplete(culprit),
             why if why.is_limit() => Verdict::Limited(culprit),
             _ => Verdict::Refused(culprit),
         }

@@ -17,7 +17,7 @@ use Rattle.ct_merge.specs.declared.verdict.Culprit.{Culprit}
 use Rattle.ct_merge.specs.declared.verdict.Verdict.{Verdict}
 use Rattle.ct_merge.specs.declared.verdict.Why.{Why}
 use Rattle.ct_merge.specs.declared.verdict.Why.TheVariants.{Ended}
-use Rattle.ct_merge.specs.declared.verdict.Verdict.TheVariants.{Accepted, Refused, Cut, Limited}
+use Rattle.ct_merge.specs.declared.verdict.Verdict.TheVariants.{Accepted, Refused, Incomplete, Limited}
 use Rattle.ct_presume.specs.Presuming.{AllOpenWith}
 use Rattle.ct_presume.specs.declared.presumption.Presumption.{Presumption}
 
@@ -97,19 +97,20 @@ culprit_alone s cells logs culprit h = record {
   run = tt;
 }
 
--- it is cut still, and told as that
+-- it is incomplete still, and told as that
 pub told_alone : (culprit : Culprit) → is_ended culprit.why ≡ true →
-    Cut (record culprit { run = None }) ≡ verdict_at (record culprit { run = None })
+    Incomplete (record culprit { run = None }) ≡ verdict_at (record culprit { run = None })
 told_alone culprit ended =
     let alone : Culprit = record culprit { run = None } in
-    sym (ap (λ ends. if ends then Cut alone else if is_limit culprit.why then Limited alone else Refused alone) ended)
+    sym (ap (λ ends. if ends then Incomplete alone else if is_limit culprit.why then Limited alone else Refused alone) ended)
 
--- logs are cut at a line that waits for a log that has ended
-pub cut_ended : (culprit : Culprit) → Cut culprit ≡ verdict_at culprit → is_ended culprit.why ≡ true
+-- logs are incomplete at a line that waits for a log that has ended
+pub cut_ended : (culprit : Culprit) → Incomplete culprit ≡ verdict_at culprit → is_ended culprit.why ≡ true
 cut_ended culprit e = by_tests (is_ended culprit.why) (is_limit culprit.why) refl e
   where
     by_tests : (a b : Bool) → is_ended culprit.why ≡ a →
-        Cut culprit ≡ (if a then Cut culprit else if b then Limited culprit else Refused culprit) → is_ended culprit.why ≡ true
+        Incomplete culprit ≡ (if a then Incomplete culprit else if b then Limited culprit else Refused culprit) →
+        is_ended culprit.why ≡ true
     by_tests true b is e = is
     by_tests false true is e = absurd (cc)
     by_tests false false is e = absurd (cc)
@@ -119,7 +120,7 @@ ended_waits (Ended p) e = refl
 ended_waits _ e = absurd (cc)
 
 -- so that they have no merge
-pub cut_none : (s : Setting) (logs : List (Vec LogLine)) (culprit : Culprit) → Cut culprit ≡ verdict_at culprit →
+pub cut_none : (s : Setting) (logs : List (Vec LogLine)) (culprit : Culprit) → Incomplete culprit ≡ verdict_at culprit →
     (is_wait culprit.why ≡ true → HasNoMerge s logs) → HasNoMerge s logs
 cut_none s logs culprit e none = none (ended_waits culprit.why (cut_ended culprit e))
 

@@ -28,8 +28,8 @@ struct Continued {
     logs: Vec<Vec<LogLine>>,
 }
 
-/// Merges the logs of members into one run, as [`merge`]; the first one is member 1's. Where they are cut, ends of logs are taken to be
-/// lost: members go on behind their logs so that they send what others received, as it is stated there. Only memory or the board can
+/// Merges the logs of members into one run, as [`merge`]; the first one is member 1's. Where they are incomplete, ends of logs are taken
+/// to be lost: members go on behind their logs so that they send what others received, as it is stated there. Only memory or the board can
 /// be refused.
 #[tactic(auto, using(crate::proofs::GoingOn::presumed))]
 pub fn presume(
@@ -73,13 +73,13 @@ pub fn presume(
             verdict: Verdict::Limited(culprit),
             logs,
         }),
-        Verdict::Cut(culprit) => cut(alloc, same, logs, culprit),
+        Verdict::Incomplete(culprit) => incomplete(alloc, same, logs, culprit),
     }
 }
 
-// What logs come to that are cut at this line.
+// What logs come to that are incomplete at this line.
 #[tactic(auto, using(crate::proofs::GoingOn::presumed))]
-fn cut(
+fn incomplete(
     alloc: Global,
     setup: Setup,
     logs: Vec<Vec<LogLine>>,
@@ -109,7 +109,7 @@ fn cut(
             logs,
         }),
         None => Ok(Presumption {
-            verdict: Verdict::Cut(culprit),
+            verdict: Verdict::Incomplete(culprit),
             logs,
         }),
     }
@@ -227,7 +227,7 @@ fn ended(merger: Merger) -> Result<Continued, LineFault>
             run: Some(world),
             logs,
         }),
-        Verdict::Refused(culprit) | Verdict::Cut(culprit) | Verdict::Limited(culprit) => {
+        Verdict::Refused(culprit) | Verdict::Incomplete(culprit) | Verdict::Limited(culprit) => {
             drop(culprit);
             Ok(Continued { run: None, logs })
         }

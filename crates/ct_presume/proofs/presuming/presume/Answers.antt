@@ -8,8 +8,9 @@ returns-in-Accepted-clause-first c =
     let merged : IsMerge c.in-Accepted.world.rehearsal c.args.logs.items = search rules in
     opens c.in-Accepted.world.rehearsal c.args.logs.items c.args.logs.items (begun_self c.args.logs.items) merged
 
-pub returns-in-Cut-clause-first : goal.returns-in-Cut-clause-first
-returns-in-Cut-clause-first c = opens_all c.cut.result c.args.logs.items c.cut.ensures.begun c.cut.ensures.merged
+pub returns-in-Incomplete-clause-first : goal.returns-in-Incomplete-clause-first
+returns-in-Incomplete-clause-first c =
+    opens_all c.incomplete.result c.args.logs.items c.incomplete.ensures.begun c.incomplete.ensures.merged
 
 pub returns-in-Refused-clause-refused : goal.returns-in-Refused-clause-refused
 returns-in-Refused-clause-refused c =
