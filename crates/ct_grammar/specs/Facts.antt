@@ -1,5 +1,5 @@
 -- What lines expect, in words.
-use Rattle.std.specs.Prelude.{Bool, ◌||◌, is_some, length, List, [], ◌∷◌, Option, Some, None, Result, Ok, Err, codes, if◌then◌else◌, ℕ}
+use Rattle.std.specs.Prelude.{Bool, ◌||◌, length, List, [], ◌∷◌, Option, Some, None, Result, Ok, Err, codes, if◌then◌else◌, ℕ}
 use Rattle.std.specs.Option.{ok_or}
 use Rattle.std.specs.Str.{bytes_eq}
 use Rattle.ct_model.specs.declared.phase.Phase.{Phase}
@@ -97,22 +97,27 @@ act_fact name words =
     if bytes_eq name (codes "may") then map_ok May (lone_act words) else (
     if bytes_eq name (codes "waits") then map_ok Waits (lone_pick words) else plain_fact name words))
 
--- the facts of a number and of a phase; otherwise those of an act and of an envelope
+-- a set of members; `-` has none
+unfoldable pub set_or_dash : Word → Option (List ℕ)
+set_or_dash word = if bytes_eq word (codes "-") then Some [] else members_of word
+
+-- the same, alone
+unfoldable pub lone_set : List Word → Result (List ℕ) Unfit
+lone_set [] = Err (End wanted.Members)
+lone_set (word ∷ words) = do
+  set ← ok_or (set_or_dash word) (Other (length words) wanted.Members)
+  _ ← over (behind_term wanted.Nothing words) words
+  Ok set
+
+-- the facts of a number, of a phase and of a set; otherwise those of an act and of an envelope
 unfoldable pub number_fact : Word → List Word → Result Fact Unfit
 number_fact name words =
     if bytes_eq name (codes "instance") then map_ok Instance (lone_whole wanted.Instance words) else (
     if bytes_eq name (codes "round") then map_ok Round (lone_whole wanted.Round words) else (
     if bytes_eq name (codes "phase") then map_ok InPhase (phase_first words) else (
-    if bytes_eq name (codes "waiting") then map_ok Waiting (lone_whole wanted.Waiting words) else act_fact name words)))
-
--- the word is a set of members, or `-`
-unfoldable pub says_set : Word → Bool
-says_set word = bytes_eq word (codes "-") || is_some (members_of word)
-
--- a set of members or `-`, alone
-unfoldable pub lone_set : List Word → Result (Unit {0}) Unfit
-lone_set [] = Err (End wanted.Members)
-lone_set (word ∷ words) = if says_set word then over (behind_term wanted.Nothing words) words else Err (Other (length words) wanted.Members)
+    if bytes_eq name (codes "waiting") then map_ok Waiting (lone_whole wanted.Waiting words) else (
+    if bytes_eq name (codes "heard") then map_ok Heard (lone_set words) else (
+    if bytes_eq name (codes "acked") then map_ok Acked (lone_set words) else act_fact name words)))))
 
 -- a word at least
 unfoldable pub some_words : List Word → Result (Unit {0}) Unfit
@@ -125,27 +130,15 @@ quotes_words name =
     bytes_eq name (codes "received") || (bytes_eq name (codes "decided") || (bytes_eq name (codes "delivered")
     || (bytes_eq name (codes "table") || bytes_eq name (codes "estimate"))))
 
--- what the fact of this name quotes, where it quotes something: words, or a set of members
-unfoldable pub quotable : Word → List Word → Option (Result (Unit {0}) Unfit)
-quotable name words =
-    if quotes_words name then Some (some_words words) else (
-    if bytes_eq name (codes "heard") || bytes_eq name (codes "acked") then Some (lone_set words) else None)
-
 -- the fact of this name that quotes the text
 unfoldable pub text_fact : Word → List ℕ → Fact
 text_fact name text =
     if bytes_eq name (codes "received") then Received text else (
     if bytes_eq name (codes "decided") then Decided text else (
     if bytes_eq name (codes "delivered") then Delivered text else (
-    if bytes_eq name (codes "table") then Table text else (
-    if bytes_eq name (codes "heard") then Heard text else (
-    if bytes_eq name (codes "acked") then Acked text else Estimate text)))))
-
--- the fact that quotes the words, where it may quote them; otherwise another
-unfoldable pub quoted_fact : Option (Result (Unit {0}) Unfit) → Word → List Word → Result Fact Unfit
-quoted_fact None name words = number_fact name words
-quoted_fact (Some may) name words = map_ok (λ _. text_fact name (text_of words)) may
+    if bytes_eq name (codes "table") then Table text else Estimate text)))
 
 -- the fact of this name
 unfoldable pub named_fact : Word → List Word → Result Fact Unfit
-named_fact name words = quoted_fact (quotable name words) name words
+named_fact name words =
+    if quotes_words name then map_ok (λ _. text_fact name (text_of words)) (some_words words) else number_fact name words

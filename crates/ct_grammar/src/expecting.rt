@@ -3,8 +3,7 @@
 ghost use Rattle.std.specs.Prelude.{◌≡◌, IfOk, map};
 ghost use Rattle.ct_grammar.specs.Facts.{phase_of, short_fact, ended, lone_act, lone_pick, lone_whole, phase_first, reason_first};
 ghost use Rattle.ct_grammar.specs.Facts.{refusal_of, plain_fact};
-ghost use Rattle.ct_grammar.specs.Facts.{act_fact, number_fact, says_set, lone_set, some_words, quotes_words, quotable, text_fact};
-ghost use Rattle.ct_grammar.specs.Facts.{named_fact};
+ghost use Rattle.ct_grammar.specs.Facts.{act_fact, number_fact, set_or_dash, lone_set, some_words, quotes_words, text_fact, named_fact};
 
 use crate::act::Act;
 use crate::acting::{act_first, behind_act};
@@ -20,6 +19,7 @@ use crate::text::Text;
 use crate::unfit::Unfit;
 use crate::wanted::Wanted;
 use ct_model::Phase;
+use ct_names::MemberSet;
 use std::alloc::{AllocError, Global};
 
 // A phase, by its name.
@@ -159,7 +159,7 @@ fn plain_fact(name: &str, words: &[&str]) -> Result<Fact, Unfit>
     }
 }
 
-// The facts of a number and of a phase; otherwise those of an act and of an envelope.
+// The facts of a number, of a phase and of a set; otherwise those of an act and of an envelope.
 #[tactic(auto, unfolding(crate::specs::Facts::number_fact))]
 fn number_fact(name: &str, words: &[&str]) -> Result<Fact, Unfit>
     ensures { result ≡ number_fact name.now (map (λ word. word.now) words.now) }
@@ -169,33 +169,36 @@ fn number_fact(name: &str, words: &[&str]) -> Result<Fact, Unfit>
         "round" => Ok(Fact::Round(lone_whole(words, Wanted::Round)?)),
         "phase" => Ok(Fact::Phase(phase_first(words)?)),
         "waiting" => Ok(Fact::Waiting(lone_whole(words, Wanted::Waiting)?)),
+        "heard" => Ok(Fact::Heard(lone_set(words)?)),
+        "acked" => Ok(Fact::Acked(lone_set(words)?)),
         _ => act_fact(name, words),
     }
 }
 
-// Whether the word is a set of members, or `-`.
-#[tactic(auto, unfolding(crate::specs::Facts::says_set))]
-fn says_set(word: &str) -> bool
-    ensures { result ≡ says_set word.now }
+// A set of members; `-` has none.
+#[tactic(auto, unfolding(crate::specs::Facts::set_or_dash))]
+fn set_or_dash(word: &str) -> Option<MemberSet>
+    ensures { result ≡ set_or_dash word.now }
 {
-    word == "-" || members(word.as_bytes()).is_some()
+    match word {
+        "-" => Some(MemberSet::new()),
+        _ => members(word.as_bytes()),
+    }
 }
 
-// A set of members or `-`, alone.
+// The same, alone.
 #[tactic(auto, unfolding(crate::specs::Facts::lone_set))]
-fn lone_set(words: &[&str]) -> Result<(), Unfit>
+fn lone_set(words: &[&str]) -> Result<MemberSet, Unfit>
     ensures { result ≡ lone_set (map (λ word. word.now) words.now) }
 {
-    match words {
-        [] => Err(Unfit::End(Wanted::Members)),
-        [word, rest @ ..] => {
-            if says_set(word) {
-                over(rest, behind_term(rest, Wanted::Nothing))
-            } else {
-                Err(Unfit::before(rest, Wanted::Members))
-            }
-        }
-    }
+    let [word, rest @ ..] = words else {
+        return Err(Unfit::End(Wanted::Members));
+    };
+    let Some(set) = set_or_dash(word) else {
+        return Err(Unfit::before(rest, Wanted::Members));
+    };
+    over(rest, behind_term(rest, Wanted::Nothing))?;
+    Ok(set)
 }
 
 // A word at least.
@@ -221,21 +224,6 @@ fn quotes_words(name: &str) -> bool
         || name == "estimate"
 }
 
-// What the fact of this name quotes, where it quotes something.
-#[tactic(auto, unfolding(crate::specs::Facts::quotable))]
-fn quotable(name: &str, words: &[&str]) -> Option<Result<(), Unfit>>
-    ensures { result ≡ quotable name.now (map (λ word. word.now) words.now) }
-{
-    if quotes_words(name) {
-        return Some(some_words(words));
-    }
-    if name == "heard" || name == "acked" {
-        Some(lone_set(words))
-    } else {
-        None
-    }
-}
-
 // The fact of this name that quotes the text.
 #[tactic(auto, unfolding(crate::specs::Facts::text_fact))]
 fn text_fact(name: &str, text: Text) -> Fact
@@ -246,14 +234,12 @@ fn text_fact(name: &str, text: Text) -> Fact
         "decided" => Fact::Decided(text),
         "delivered" => Fact::Delivered(text),
         "table" => Fact::Table(text),
-        "heard" => Fact::Heard(text),
-        "acked" => Fact::Acked(text),
         _ => Fact::Estimate(text),
     }
 }
 
 /// The fact of this name.
-#[tactic(auto, unfolding(crate::specs::Facts::named_fact, crate::specs::Facts::quoted_fact))]
+#[tactic(auto, unfolding(crate::specs::Facts::named_fact))]
 pub(crate) fn named_fact(
     alloc: Global,
     name: &str,
@@ -261,9 +247,11 @@ pub(crate) fn named_fact(
 ) -> Result<Result<Fact, Unfit>, AllocError>
     ensures { IfOk result (λ fact. fact ≡ named_fact name.now (map (λ word. word.now) words.now)) }
 {
-    match quotable(name, words) {
-        None => Ok(number_fact(name, words)),
-        Some(Err(unfit)) => Ok(Err(unfit)),
-        Some(Ok(())) => Ok(Ok(text_fact(name, joined(alloc, words)?))),
+    if !quotes_words(name) {
+        return Ok(number_fact(name, words));
+    }
+    match some_words(words) {
+        Err(unfit) => Ok(Err(unfit)),
+        Ok(()) => Ok(Ok(text_fact(name, joined(alloc, words)?))),
     }
 }

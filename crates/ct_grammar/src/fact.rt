@@ -5,7 +5,7 @@ use crate::pick::Pick;
 use crate::reason::Reason;
 use crate::text::Text;
 use ct_model::Phase;
-use ct_names::{Instance, Round};
+use ct_names::{Instance, MemberSet, Round};
 
 /// What a line of a schedule expects of a member. The texts are what stands behind the fact's name.
 #[derive(Drop)]
@@ -39,9 +39,9 @@ pub enum Fact {
     /// `waits est 1/1 from 3`: one that is so named waits at the member.
     Waits(Pick),
     /// `heard 1,3`, or `heard -`: the members whose estimates of its round it has.
-    Heard(Text),
+    Heard(MemberSet),
     /// `acked 1,3`, or `acked -`: the members whose acks of its round it has.
-    Acked(Text),
+    Acked(MemberSet),
     /// `estimate {1.1,2.1} ts 1`, or `estimate -`: its estimate and the timestamp.
     Estimate(Text),
 }

@@ -3,7 +3,6 @@ use Rattle.std.specs.Prelude.{◌≡◌, ◌⊎◌, ◌≤◌, ℕ, true, false,
 use Rattle.ct_names.specs.Group.{everyone}
 use Rattle.ct_names.specs.Membership.{IsIn}
 use Rattle.ct_names.specs.Value.{Value}
-use Rattle.ct_model.specs.AtValue.{Standing}
 use Rattle.ct_model.specs.Cause.{cause}
 use Rattle.ct_model.specs.declared.step.Step.{Step}
 use Rattle.ct_model.specs.declared.step.Step.TheVariants as step
@@ -27,7 +26,6 @@ use Rattle.ct_grammar.specs.declared.reason.Reason.{Reason}
 use Rattle.ct_grammar.specs.declared.reason.Reason.TheVariants.{NotThere, Across, Rules}
 use Rattle.ct_play.specs.Acting.{step_of}
 use Rattle.ct_play.specs.Cuts.{is_near}
-use Rattle.ct_play.specs.Facts.{set_text}
 use Rattle.ct_play.specs.Picking.{is_so, sender_of, was_sent}
 use Rattle.ct_play.specs.Played.{Played}
 use Rattle.ct_laws.specs.Facts.{HasGot, Stands}
@@ -86,16 +84,9 @@ IsRefusedFor s p act (Rules refusal) = ComesTo s.rehearsal p act (λ step. cause
 
 -- ---- what was got
 
--- the text is that of the set of the members of which this is so
-pub record IsTextOf (P : ℕ → Type 0) (text : List ℕ) : Type 0 where
-  pub set : List ℕ
-  pub is : text ≡ set_text (Some set)
-  pub all : (q : ℕ) → IsIn q everyone → P q → IsIn q set
-  pub only : (q : ℕ) → IsIn q set → P q
-
--- where p has an instance open, this is so of its standing there; where it has none, the text is a dash
-abbrev pub IsDash : Rehearsal → ℕ → List ℕ → (Standing → Type 0) → Type 0
-IsDash w p text P = (((member_of w p).current ≡ None) × (text ≡ codes "-")) ⊎ Stands w p P
+-- the set is that of the members of which this is so
+abbrev pub IsSetOf : (ℕ → Type 0) → List ℕ → Type 0
+IsSetOf P set = (q : ℕ) → IsIn q everyone → (P q → IsIn q set) × (IsIn q set → P q)
 
 -- p got an estimate of q for the round
 abbrev pub HasEstimate : Rehearsal → ℕ → ℕ → ℕ → Type 0
@@ -119,7 +110,9 @@ IsSo s p (Refuses act reason) = IsRefusedFor s p act reason
 IsSo s p (May act) = ComesTo s.rehearsal p act (λ step. (cause s.rehearsal step ≡ None) × IsOpen s step)
 IsSo s p (Waiting k) = length (line_of s.rehearsal p) ≡ k
 IsSo s p (Waits pick) = HasWaiting s.rehearsal p pick
-IsSo s p (Heard text) = IsDash s.rehearsal p text (λ c. IsTextOf (HasEstimate s.rehearsal p c.round) text)
-IsSo s p (Acked text) =
-    IsDash s.rehearsal p text (λ c. IsTextOf (λ q. HasGot s.rehearsal p (Ack (member_of s.rehearsal p).last c.round q)) text)
-IsSo s p (Estimate text) = IsDash s.rehearsal p text (λ c. text ≡ estimate_text (Some (c.estimate, c.ts)))
+IsSo s p (Heard set) = IsSetOf (λ q. Stands s.rehearsal p (λ c. HasEstimate s.rehearsal p c.round q)) set
+IsSo s p (Acked set) =
+    IsSetOf (λ q. Stands s.rehearsal p (λ c. HasGot s.rehearsal p (Ack (member_of s.rehearsal p).last c.round q))) set
+IsSo s p (Estimate text) =
+    (((member_of s.rehearsal p).current ≡ None) × (text ≡ codes "-"))
+    ⊎ Stands s.rehearsal p (λ c. text ≡ estimate_text (Some (c.estimate, c.ts)))

@@ -12,9 +12,10 @@ ghost use Rattle.ct_laws.specs.Expectations.{IsSo};
 ghost use Rattle.ct_laws.specs.Places.{EachIsAllowed};
 ghost use Rattle.ct_laws.specs.Showing.{AreMet};
 
-/// A fact, whose value is compared as a text, holds of a member exactly where it is so of the state: of its crash mark, its instance,
-/// round and phase, the envelopes that wait, and the cause for which the rules refuse the step of an act. A goal is shown exactly where
-/// each of its terms is met: its claim is true of those of whom it has to be, now, at one of the beginnings of the record, or at none.
+/// A fact, whose value is compared as a text or as a set, holds of a member exactly where it is so of the state: of its crash mark, its
+/// instance, round and phase, the members whose estimates and acks it has, the envelopes that wait, and the cause for which the rules
+/// refuse the step of an act. A goal is shown exactly where each of its terms is met: its claim is true of those of whom it has to be,
+/// now, at one of the beginnings of the record, or at none.
 #[tactic(auto, using(crate::proofs::Expecting::Showing::of_facts_and_goals))]
 pub fn law_expect()
     ensures so { (s : Played) (p : ℕ) (fact : Fact) → IsLawful s.rehearsal → holds s p fact ≡ true →

@@ -1,9 +1,7 @@
 -- Lines that are played in a world that is not cut.
-use Rattle.std.proofs.Common.{◌≡◌, ◌-◌, ℕ, Bool, true, false, List, [], ◌∷◌, ap, refl, ◌∙◌, arith, Option, Some, None, Result, Ok, Err}
+use Rattle.std.proofs.Common.{◌≡◌, ◌-◌, ℕ, Bool, true, false, [], ◌∷◌, ap, refl, ◌∙◌, arith, Option, Some, None, Result, Ok, Err}
 use Rattle.std.proofs.Common.{get_or, cond}
-use Rattle.std.specs.Str.{bytes_eq}
 use Rattle.std.proofs.lemmas.List.{get_or-replicate}
-use Rattle.std.proofs.lemmas.Slice.Eq.{bytes_eq-Decides}
 use Rattle.std.proofs.lemmas.Bool.Decides.{nat_tests}
 use Rattle.ct_names.specs.Group.{is_member}
 use Rattle.ct_names.specs.declared.limit.TheConstants.{MAX_MEMBERS}
@@ -20,7 +18,7 @@ use Rattle.ct_play.specs.Acting.{after_step, done, go_on, step_of, stepped}
 use Rattle.ct_play.specs.Cuts.{barred, is_beside, is_near}
 use Rattle.ct_play.specs.Claims.{is_true_of}
 use Rattle.ct_play.specs.Expecting.{expected, unmet}
-use Rattle.ct_play.specs.Facts.{holds, there, value}
+use Rattle.ct_play.specs.Facts.{holds, is_as_said}
 use Rattle.ct_play.specs.Faults.{IsFaultOf, IsShort, UnlessShort, is_short}
 use Rattle.ct_play.specs.Goals.{holds_for, unshown}
 use Rattle.ct_play.specs.Picking.{sender_of}
@@ -71,23 +69,14 @@ lone_played s p act step lone e is allowed =
 
 -- ---- expectations
 
-same_bytes : (xs ys : List ℕ) → xs ≡ ys → bytes_eq xs ys ≡ true
-same_bytes xs ys e = (bytes_eq-Decides xs ys).1 e
-
-holds_there : (s : Played) (p : ℕ) (fact : Fact) → is_member s.rehearsal.setting.members p ≡ true → there s p fact ≡ value fact →
-    holds s p fact ≡ true
-unfolding holds
-holds_there s p fact member e = rw (member, same_bytes (there s p fact) (value fact) e) refl
-
 known_one : (n p : ℕ) → is_member n p ≡ true → known n (One p) ≡ Ok (p ∷ [])
 unfolding known
 known_one n p member = rw member refl
 
-pub there_played : (s : Played) (p : ℕ) (fact : Fact) → is_member s.rehearsal.setting.members p ≡ true → there s p fact ≡ value fact →
+pub there_played : (s : Played) (p : ℕ) (fact : Fact) → is_member s.rehearsal.setting.members p ≡ true → is_as_said s p fact ≡ true →
     played s (Expect (fact_goal p fact)) ≡ Ok s
-unfolding expected unmet holds_for unshown is_true_of
-there_played s p fact member e =
-    rw (known_one s.rehearsal.setting.members p member, holds_there s p fact member e, member) refl
+unfolding expected unmet holds_for unshown is_true_of holds
+there_played s p fact member e = rw (known_one s.rehearsal.setting.members p member, member, e) refl
 
 -- ---- faults
 

@@ -1,6 +1,7 @@
 -- What is there at a member.
 use Rattle.std.proofs.Common.{◌≡◌, ◌≤◌, ℕ, Bool, true, false, List, [], ◌++◌, refl, sym, ap, ◌∙◌, Option, Some, None}
 use Rattle.std.specs.Prelude.{codes, decimal, is_some, option_map, ◌&&◌}
+use Rattle.std.specs.Str.{bytes_eq}
 use Rattle.ct_names.specs.Group.{is_member}
 use Rattle.ct_model.specs.declared.phase.Phase.{Phase}
 use Rattle.ct_model.specs.declared.phase.Phase.TheVariants.{Rest}
@@ -15,7 +16,7 @@ use Rattle.ct_play.specs.Facts.{open_text, place_of, there}
 use Rattle.ct_play.specs.Played.{Played}
 use Rattle.ct_listing.specs.Expecting.{IsThere}
 use Rattle.ct_listing.proofs.OneLine.{decimal_line}
-use Rattle.ct_listing.proofs.Quoted.{delivered_there, table_there}
+use Rattle.ct_listing.proofs.Quoted.{delivered_there, same_text, table_there}
 
 module _ (s : Played) (p : ℕ) where
   crash_mark : (r : Bool) → is_member s.rehearsal.setting.members p ≡ true →
@@ -36,23 +37,27 @@ module _ (s : Played) (p : ℕ) where
       IsThere s p (Instance i)
   unfolding fact_text instance_of
   instance_there i member e small = record {
-    same = ap decimal (sym (rw (member, instance_of) at e));
+    same = same_text (decimal (member_of s.rehearsal p).last) (decimal i) (ap decimal (sym (rw (member, instance_of) at e)));
     fits = small;
     line = decimal_line i;
   }
 
   pub idle_there : is_member s.rehearsal.setting.members p ≡ true → place_of s.rehearsal p ≡ None → IsThere s p Idle
   unfolding fact_text
-  idle_there member none = record { same = closed _ (member_of s.rehearsal p).current (rw member at none); fits = tt; line = refl }
+  idle_there member none = record {
+    same = closed _ (member_of s.rehearsal p).current (rw member at none);
+    fits = tt;
+    line = refl;
+  }
     where
-      closed : {A B : Type 0} (f : A → B) (o : Option A) → option_map f o ≡ None → open_text (is_some o) ≡ codes "idle"
+      closed : {A B : Type 0} (f : A → B) (o : Option A) → option_map f o ≡ None → bytes_eq (open_text (is_some o)) (codes "idle") ≡ true
       closed f None e = refl
       closed f (Some x) e = absurd (cc)
 
   pub round_there : (r : ℕ) (phase : Phase) → place_of s.rehearsal p ≡ Some (r, phase) → r ≤ max_u32 → IsThere s p (Round r)
   unfolding fact_text
   round_there r phase e small = record {
-    same = rw e refl;
+    same = rw e (same_text (decimal r) (decimal r) refl);
     fits = small;
     line = decimal_line r;
   }

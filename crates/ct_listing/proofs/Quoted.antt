@@ -107,13 +107,16 @@ table_pieces values (suc k) =
 
 -- ---- facts
 
+pub same_text : (a b : List ℕ) → a ≡ b → bytes_eq a b ≡ true
+same_text a b e = (bytes_eq-Decides a b).1 e
+
 pub delivered_there : (s : Played) (p : ℕ) (text : List ℕ) → text ≡ messages_text 32 (delivered (member_of s.rehearsal p)) →
     IsThere s p (Delivered text)
 unfolding fact_text
 delivered_there s p text e =
     let pieces = message_pieces (delivered (member_of s.rehearsal p)) in
     record {
-      same = sym e;
+      same = same_text _ text (sym e);
       fits = subst (IsQuoted (codes "delivered")) (sym e)
           (list_quoted (codes "delivered") (map message_text (delivered (member_of s.rehearsal p))) pieces plain_delivered);
       line = ap one_line e ∙ list_line (map message_text (delivered (member_of s.rehearsal p))) pieces;
@@ -125,7 +128,7 @@ unfolding fact_text table_text
 table_there s p text e =
     let values : List ℕ = table (delivered (member_of s.rehearsal p)) in
     record {
-      same = sym e;
+      same = same_text _ text (sym e);
       fits = subst (IsQuoted (codes "table")) (sym e)
           (list_quoted (codes "table") (first_registers values 16) (table_pieces values 16) plain_table);
       line = ap one_line e ∙ list_line (first_registers values 16) (table_pieces values 16);

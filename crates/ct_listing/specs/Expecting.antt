@@ -7,7 +7,7 @@ use Rattle.ct_grammar.specs.declared.fact.Fact.{Fact}
 use Rattle.ct_grammar.specs.declared.goal.Goal.{Goal}
 use Rattle.ct_grammar.specs.declared.term.When.TheVariants.{Now}
 use Rattle.ct_grammar.specs.declared.term.Whom.TheVariants as whom
-use Rattle.ct_play.specs.Facts.{there, value}
+use Rattle.ct_play.specs.Facts.{is_as_said}
 use Rattle.ct_play.specs.Played.{Played}
 use Rattle.ct_print.specs.Facts.{fact_text}
 use Rattle.ct_listing.specs.Leading.{one_line}
@@ -24,6 +24,6 @@ fact_goal p fact = record { when = Now; whom = whom.One p; claim = claim.Fact fa
 
 -- the fact is what is there at p, and can be written
 pub record IsThere (s : Played) (p : ℕ) (fact : Fact) : Type 0 where
-  pub same : there s p fact ≡ value fact
+  pub same : is_as_said s p fact ≡ true
   pub fits : FactFits fact
   pub line : one_line (fact_text fact) ≡ true

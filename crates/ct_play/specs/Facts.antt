@@ -1,9 +1,10 @@
 -- What facts say of members, and what is there.
-use Rattle.std.specs.Prelude.{ℕ, Bool, false, List, [], ◌∷◌, codes, decimal, is_some, length, Option, Some, None}
-use Rattle.std.specs.Prelude.{option_map, Result, Ok, Err, if◌then◌else◌}
+use Rattle.std.specs.Prelude.{ℕ, Bool, ◌==◌, false, List, [], ◌∷◌, codes, decimal, is_some, length, Option, Some, None}
+use Rattle.std.specs.Prelude.{option_map, unwrap_or, Result, Ok, Err, if◌then◌else◌}
 use Rattle.std.specs.List.{concat}
 use Rattle.std.specs.Str.{bytes_eq}
 use Rattle.ct_names.specs.Group.{is_member}
+use Rattle.ct_names.specs.MemberSet.{bits_of}
 use Rattle.ct_names.specs.RefusalText.{refusal_text}
 use Rattle.ct_names.specs.declared.limit.TheConstants.{MAX_MEMBERS}
 use Rattle.ct_names.specs.declared.refusal.Refusal.{Refusal}
@@ -70,10 +71,16 @@ act_cause s (Ok step) = step_cause s step
 abbrev pub waits_text : Bool → List ℕ
 waits_text waits = if waits then codes "waits" else codes "none"
 
+-- the members whose estimates of its round p has, and those whose acks; none where no instance is open
+abbrev pub heard_at : Rehearsal → ℕ → List ℕ
+heard_at w p = unwrap_or (if_member w p (all_heard_by (member_of w p))) []
+
+abbrev pub acked_at : Rehearsal → ℕ → List ℕ
+acked_at w p = unwrap_or (if_member w p (acked_by (member_of w p))) []
+
 -- the members of a set, with commas; a dash where there are none
-abbrev pub set_text : Option (List ℕ) → List ℕ
-set_text None = codes "-"
-set_text (Some set) = list_text 44 (first_in set MAX_MEMBERS)
+abbrev pub set_text : List ℕ → List ℕ
+set_text set = list_text 44 (first_in set MAX_MEMBERS)
 
 -- the estimate of p; a dash where no instance is open
 abbrev pub estimate_text : Rehearsal → ℕ → List ℕ
@@ -95,8 +102,8 @@ there s p (Refuses act reason) = act_cause s (step_of s.rehearsal p act)
 there s p (May act) = act_cause s (step_of s.rehearsal p act)
 there s p (Waiting k) = decimal (length (waiting_at s.rehearsal p))
 there s p (Waits pick) = waits_text (is_waiting s.rehearsal p pick)
-there s p (Heard text) = set_text (if_member s.rehearsal p (all_heard_by (member_of s.rehearsal p)))
-there s p (Acked text) = set_text (if_member s.rehearsal p (acked_by (member_of s.rehearsal p)))
+there s p (Heard set) = set_text (heard_at s.rehearsal p)
+there s p (Acked set) = set_text (acked_at s.rehearsal p)
 there s p (Estimate text) = estimate_text s.rehearsal p
 
 -- ---- what is expected
@@ -117,8 +124,8 @@ value (Refuses act reason) = reason_text reason
 value (May act) = codes "allowed"
 value (Waiting k) = decimal k
 value (Waits pick) = codes "waits"
-value (Heard text) = text
-value (Acked text) = text
+value (Heard set) = set_text set
+value (Acked set) = set_text set
 value (Estimate text) = text
 
 -- the word before the value, and a space; nothing where the value says it
@@ -137,15 +144,20 @@ word (Refuses act reason) = codes "refuses "
 word (May act) = []
 word (Waiting k) = codes "waiting "
 word (Waits pick) = []
-word (Heard text) = codes "heard "
-word (Acked text) = codes "acked "
+word (Heard set) = codes "heard "
+word (Acked set) = codes "acked "
 word (Estimate text) = codes "estimate "
 
 -- what is expected, in words
 unfoldable pub wanted : Fact → List ℕ
 wanted fact = concat (word fact ∷ value fact ∷ [])
 
--- a fact holds of a member of the group where what is there reads as what is expected
+-- what is there is what is expected: sets have the same members, and what else is there reads the same
+abbrev pub is_as_said : Played → ℕ → Fact → Bool
+is_as_said s p (Heard set) = bits_of (heard_at s.rehearsal p) == bits_of set
+is_as_said s p (Acked set) = bits_of (acked_at s.rehearsal p) == bits_of set
+is_as_said s p fact = bytes_eq (there s p fact) (value fact)
+
+-- a fact holds of a member of the group of which it is so
 unfoldable pub holds : Played → ℕ → Fact → Bool
-holds s p fact =
-    if is_member s.rehearsal.setting.members p then bytes_eq (there s p fact) (value fact) else false
+holds s p fact = if is_member s.rehearsal.setting.members p then is_as_said s p fact else false

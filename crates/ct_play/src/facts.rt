@@ -9,8 +9,8 @@ ghost use Rattle.ct_model.specs.State.{delivered};
 ghost use Rattle.ct_table.specs.Table.{table};
 ghost use Rattle.ct_world.specs.World.{member_of};
 ghost use Rattle.ct_text.specs.Lists.{decisions_text, messages_text, table_text};
-ghost use Rattle.ct_play.specs.Facts.{act_cause, barred_text, cause_text, estimate_text, holds, open_text};
-ghost use Rattle.ct_play.specs.Facts.{place_text, round_text, set_text, step_cause, there, up_text, value, waits_text, wanted, word};
+ghost use Rattle.ct_play.specs.Facts.{acked_at, act_cause, barred_text, cause_text, estimate_text, heard_at, holds, is_as_said, open_text};
+ghost use Rattle.ct_play.specs.Facts.{place_text, round_text, step_cause, there, up_text, value, waits_text, wanted, word};
 
 use crate::acting::step_of;
 use crate::cuts::barred;
@@ -38,14 +38,29 @@ pub(crate) fn holds(
 ) -> Result<bool, AllocError>
     ensures { IfOk result (λ met. met ≡ holds stage.now member fact.now) }
 {
-    if !stage.world().group().has(member) {
-        return Ok(false);
+    if stage.world().group().has(member) {
+        is_as_said(alloc, stage, member, fact)
+    } else {
+        Ok(false)
     }
-    let mut there = String::new(alloc);
-    push_there(&mut there, stage, member, fact)?;
-    let mut wanted = String::new(alloc);
-    push_value(&mut wanted, fact)?;
-    Ok(there.as_str() == wanted.as_str())
+}
+
+// Whether what is there is what is expected.
+fn is_as_said(alloc: Global, stage: &Stage, member: Member, fact: &Fact) -> Result<bool, AllocError>
+    requires { IsTrue (is_member stage.now.rehearsal.setting.members member) }
+    ensures { IfOk result (λ met. met ≡ is_as_said stage.now member fact.now) }
+{
+    match fact {
+        Fact::Heard(set) => Ok(heard_at(stage.world(), member) == *set),
+        Fact::Acked(set) => Ok(acked_at(stage.world(), member) == *set),
+        _ => {
+            let mut there = String::new(alloc);
+            push_there(&mut there, stage, member, fact)?;
+            let mut wanted = String::new(alloc);
+            push_value(&mut wanted, fact)?;
+            Ok(there.as_str() == wanted.as_str())
+        }
+    }
 }
 
 /// Appends what is expected: the word of the fact, and the value that has to be there.
@@ -101,8 +116,8 @@ fn push_value(text: &mut String, fact: &Fact) -> Result<(), AllocError>
         Fact::May(_) => text.push_str("allowed"),
         Fact::Waiting(count) => write!(text, "{count}"),
         Fact::Waits(_) => text.push_str("waits"),
-        Fact::Heard(words) => text.push_str(words.as_str()),
-        Fact::Acked(words) => text.push_str(words.as_str()),
+        Fact::Heard(set) => push_members_of(text, ',', *set),
+        Fact::Acked(set) => push_members_of(text, ',', *set),
         Fact::Estimate(words) => text.push_str(words.as_str()),
     }
 }
@@ -135,8 +150,8 @@ pub fn push_there(
         }
         Fact::Waiting(_) => push_count(text, waiting_at(stage, member).len()),
         Fact::Waits(pick) => text.push_str(waits_text(is_waiting(stage, member, *pick))),
-        Fact::Heard(_) => push_set(text, world.heard(member)),
-        Fact::Acked(_) => push_set(text, world.acked(member)),
+        Fact::Heard(_) => push_members_of(text, ',', heard_at(world, member)),
+        Fact::Acked(_) => push_members_of(text, ',', acked_at(world, member)),
         Fact::Estimate(_) => push_estimate(text, world, member),
     }
 }
@@ -236,14 +251,18 @@ fn waits_text(waits: bool) -> &'static str
     if waits { "waits" } else { "none" }
 }
 
-// The members of the set, with commas; a dash where there are none.
-fn push_set(text: &mut String, set: Option<MemberSet>) -> Result<(), AllocError>
-    ensures { OnOk result (Adds text.old text.new (set_text set)) }
+// The members whose estimates of its round the member has; none where no instance is open.
+fn heard_at(world: &World, member: Member) -> MemberSet
+    ensures { result ≡ heard_at world.now.rehearsal member }
 {
-    match set {
-        None => text.push_str("-"),
-        Some(set) => push_members_of(text, ',', set),
-    }
+    world.heard(member).unwrap_or(MemberSet::new())
+}
+
+// The members whose acks of its round the member has; none where no instance is open.
+fn acked_at(world: &World, member: Member) -> MemberSet
+    ensures { result ≡ acked_at world.now.rehearsal member }
+{
+    world.acked(member).unwrap_or(MemberSet::new())
 }
 
 // The estimate of the member; a dash where no instance is open.

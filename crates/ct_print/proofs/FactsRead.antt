@@ -1,6 +1,6 @@
 -- Facts and members, written and read.
-use Rattle.std.proofs.Common.{◌≡◌, ℕ, ◌<◌, ◌≤◌, ◌==◌, ◌||◌, Bool, true, false, List, [], ◌∷◌, ◌++◌, length, refl, sym, ap, ◌∙◌, arith}
-use Rattle.std.proofs.Common.{append-nil, subst, inl, inr}
+use Rattle.std.proofs.Common.{◌≡◌, ℕ, ◌≤◌, ◌==◌, ◌||◌, Bool, true, false, List, [], ◌∷◌, ◌++◌, length, refl, sym, ap, ◌∙◌, arith}
+use Rattle.std.proofs.Common.{append-nil, inl, inr}
 use Rattle.std.specs.Prelude.{codes, decimal, Some, Ok}
 use Rattle.std.specs.Str.{bytes_eq}
 use Rattle.ct_names.specs.declared.limit.Limit.TheVariants.{Steps}
@@ -10,7 +10,6 @@ use Rattle.ct_names.specs.MemberSet.{has_member}
 use Rattle.std.proofs.lemmas.Bool.Decides.{nat_tests}
 use Rattle.ct_names.proofs.MemberSets.{filter-agree}
 use Rattle.ct_model.specs.declared.phase.Phase.{Phase}
-use Rattle.std.proofs.lemmas.Slice.Eq.{bytes_eq-Decides}
 use Rattle.ct_model.specs.declared.phase.Phase.TheVariants.{Rest}
 use Rattle.ct_grammar.specs.declared.act.Act.{Act}
 use Rattle.ct_grammar.specs.declared.fact.Fact.{Fact}
@@ -22,51 +21,24 @@ use Rattle.ct_grammar.specs.declared.reason.Reason.TheVariants.{Rules}
 use Rattle.ct_grammar.specs.declared.who.Who.{Who}
 use Rattle.ct_grammar.specs.declared.who.Who.TheVariants.{One, Some as Several, All}
 use Rattle.ct_grammar.specs.Facts.{phase_of, short_fact, ended, lone_act, lone_pick, lone_whole, phase_first, reason_first, refusal_of}
-use Rattle.ct_grammar.specs.Facts.{act_fact, number_fact, says_set, lone_set, some_words, quotes_words, quotable, text_fact, quoted_fact}
-use Rattle.ct_grammar.specs.Facts.{named_fact}
-use Rattle.ct_grammar.specs.Goals.{is_and}
+use Rattle.ct_grammar.specs.Facts.{act_fact, number_fact, set_or_dash, lone_set, some_words, quotes_words, text_fact, named_fact}
 use Rattle.ct_grammar.specs.Leading.{over}
-use Rattle.ct_grammar.specs.Numbers.{max_u8, max_u32, number_of, number_in, members_of, has_comma}
+use Rattle.ct_grammar.specs.Numbers.{max_u8, max_u32, members_of, has_comma}
 use Rattle.ct_grammar.specs.Reasons.{reason_text, full_of, step_reason, reason_of}
 use Rattle.ct_grammar.specs.Who.{who_of}
-use Rattle.ct_grammar.specs.Words.{Word, all_words, words_of, text_of}
+use Rattle.ct_grammar.specs.Words.{Word, words_of, text_of}
 use Rattle.ct_print.specs.Facts.{fact_text, phase_word}
-use Rattle.ct_print.specs.Members.{set_text, list_text, who_text}
-use Rattle.ct_print.specs.Writable.{IsSomeSet, WhoFits, ActFits, PickFits, FactFits, IsQuotable, IsQuoted, IsSetText, IsRules}
-use Rattle.ct_print.proofs.ActsRead.{whole_is_first, pick_back, act_back}
+use Rattle.ct_print.specs.Members.{set_text, set_or_dash_text, list_text, who_text}
+use Rattle.ct_print.specs.Writable.{IsSet, IsSomeSet, WhoFits, ActFits, PickFits, FactFits, IsQuotable, IsQuoted, IsRules}
+use Rattle.ct_print.proofs.ActsRead.{set_back, whole_is_first, pick_back, act_back}
 use Rattle.ct_print.proofs.Numerals.{number_back}
 use Rattle.ct_print.proofs.Numeric.{numeric_other, decimal_numeric, decimal_digits}
 use Rattle.ct_print.proofs.Parts.{AreSmall, numbers_text, members_back, alone_no_comma, list_has_comma}
-use Rattle.ct_print.proofs.TextWords.{Reads}
 use Rattle.ct_print.proofs.NoAnd.{Says, said, says_beside, led, spoken}
-use Rattle.ct_print.proofs.Spoken.{pick_words, act_words, pick_says, act_says, quoted_reads, small_members, list_numeric}
+use Rattle.ct_print.proofs.Spoken.{pick_words, act_words, pick_says, act_says, quoted_reads, set_numeric, set_says, small_members}
+use Rattle.ct_print.proofs.Spoken.{list_numeric, some_length, some_set}
 
 -- ---- quoted texts
-
-set_text_reads : (text : List ℕ) → IsSetText text → Reads text (text ∷ [])
-unfolding words_of all_words
-set_text_reads text h = subst (Reads text) h.word (quoted_reads text (record { words = ap text_of h.word; some = some text h.word }))
-  where
-    some : (t : List ℕ) → words_of t ≡ t ∷ [] → 0 < length t
-    some [] e = absurd (omega (arith, ap length e))
-    some (c ∷ cs) e = omega arith
-
-and_is_no_set : says_set (codes "and") ≡ true → ⊥
-unfolding says_set members_of number_in number_of
-and_is_no_set e = cc
-
-set_text_no_and : (text : List ℕ) → IsSetText text → is_and text ≡ false
-set_text_no_and text h = go (is_and text) refl
-  where
-    go : (b : Bool) → is_and text ≡ b → b ≡ false
-    go true e =
-        let same : text ≡ codes "and" = (bytes_eq-Decides text (codes "and")).0 e in
-        let set : says_set (codes "and") ≡ true = ap says_set (sym same) ∙ h.set in
-        absurd (and_is_no_set set)
-    go false e = refl
-
-set_text_says : (text : List ℕ) → IsSetText text → Says text (text ∷ [])
-set_text_says text h = record { reads = set_text_reads text h; no_and = rw (set_text_no_and text h) refl }
 
 quoted_says : (name : Word) (text : List ℕ) → IsQuoted name text → Says text (words_of text)
 quoted_says name text h = record { reads = quoted_reads text h.quotable; no_and = h.no_and }
@@ -83,9 +55,6 @@ some_of text h = go (words_of text) refl
 
 text_again : (text : List ℕ) → IsQuotable text → text_of (words_of text) ≡ text
 text_again text h = h.words
-
-set_again : (text : List ℕ) → IsSetText text → says_set text ≡ true
-set_again text h = h.set
 
 -- ---- members
 
@@ -124,6 +93,21 @@ who_back (Several set) h =
     rw (numeric_other (list_text set) _ _ refl (list_numeric set h), back.0, back.1) refl
 who_back All h = refl
 
+-- ---- sets
+
+set_or_dash_says : (set : List ℕ) → IsSet set → Says (set_or_dash_text set) (set_or_dash_text set ∷ [])
+unfolding set_or_dash_text
+set_or_dash_says [] h = said (codes "-") refl refl
+set_or_dash_says (p ∷ ps) h = rw (some_length p ps) (set_says (p ∷ ps) (some_set p ps h))
+
+set_alone : (set : List ℕ) → IsSet set → lone_set (set_or_dash_text set ∷ []) ≡ Ok set
+unfolding lone_set set_or_dash set_or_dash_text over
+set_alone [] h = refl
+set_alone (p ∷ ps) h =
+    let s = some_set p ps h in
+    let numeric = set_numeric (p ∷ ps) s.some (small_members (p ∷ ps) s) in
+    rw (some_length p ps, numeric_other (set_text (p ∷ ps)) _ _ refl numeric, set_back (p ∷ ps) s) refl
+
 -- ---- reasons
 
 pub reason_back : (reason : Reason) → IsRules reason → reason_of (reason_text reason) ≡ Some reason
@@ -158,8 +142,8 @@ fact_name (Refuses act reason) = codes "refuses"
 fact_name (May act) = codes "may"
 fact_name (Waiting n) = codes "waiting"
 fact_name (Waits pick) = codes "waits"
-fact_name (Heard quoted) = codes "heard"
-fact_name (Acked quoted) = codes "acked"
+fact_name (Heard set) = codes "heard"
+fact_name (Acked set) = codes "acked"
 fact_name (Estimate quoted) = codes "estimate"
 
 -- the words behind the name
@@ -175,8 +159,8 @@ fact_rest (Refuses act reason) = act_words act ++ (reason_text reason ∷ [])
 fact_rest (May act) = act_words act
 fact_rest (Waiting n) = decimal n ∷ []
 fact_rest (Waits pick) = pick_words pick
-fact_rest (Heard quoted) = quoted ∷ []
-fact_rest (Acked quoted) = quoted ∷ []
+fact_rest (Heard set) = set_or_dash_text set ∷ []
+fact_rest (Acked set) = set_or_dash_text set ∷ []
 fact_rest (Estimate quoted) = words_of quoted
 fact_rest _ = []
 
@@ -192,7 +176,7 @@ unfolding fact_text
 fact_says (Refuses act reason) h =
     led (codes "refuses") _ _ (said _ refl refl)
     (says_beside _ (reason_text reason) (act_words act) (reason_text reason ∷ []) (act_says act h.0) (reason_says reason))
-fact_says _ h = search (spoken, phase_says, quoted_says, act_says, pick_says, set_text_says)
+fact_says _ h = search (spoken, phase_says, quoted_says, act_says, pick_says, set_or_dash_says)
 
 pub alone_back : (n : ℕ) (what : _) → n ≤ max_u32 → lone_whole what (decimal n ∷ []) ≡ Ok n
 unfolding lone_whole over
@@ -213,7 +197,7 @@ refusal_back act reason h k =
     rw (act_back act _ (reason_text reason ∷ []) h (reason_no_from reason), reason_back reason k) refl
 
 pub fact_back : (fact : Fact) → FactFits fact → named_fact (fact_name fact) (fact_rest fact) ≡ Ok fact
-unfolding named_fact quotable quoted_fact quotes_words text_fact number_fact act_fact short_fact phase_first phase_of lone_set over
+unfolding named_fact quotes_words text_fact number_fact act_fact short_fact phase_first phase_of over
 fact_back (InPhase Rest) h = refl
 fact_back (Refuses act reason) h = refusal_back act reason h.0 h.1
-fact_back _ h = search (some_of, text_again, set_again, alone_back, act_alone, pick_alone)
+fact_back _ h = search (some_of, text_again, set_alone, alone_back, act_alone, pick_alone)

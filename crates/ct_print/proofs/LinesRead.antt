@@ -1,9 +1,8 @@
 -- Lines, written and read.
-use Rattle.std.proofs.Common.{◌≡◌, ℕ, ◌<◌, ◌≤◌, ◌^◌, ◌==◌, false, List, [], ◌∷◌, ◌++◌, length, refl, sym, ap, ◌∙◌, arith, append-nil, subst}
+use Rattle.std.proofs.Common.{◌≡◌, ℕ, ◌<◌, ◌≤◌, ◌^◌, false, List, [], ◌∷◌, ◌++◌, length, refl, sym, ap, ◌∙◌, arith, append-nil, subst}
 use Rattle.std.proofs.Common.{inl, inr}
 use Rattle.std.specs.Prelude.{codes, decimal, Ok}
 use Rattle.std.specs.Str.{bytes_eq}
-use Rattle.std.proofs.lemmas.Bool.Decides.{nat_tests}
 use Rattle.std.proofs.lemmas.Slice.Eq.{bytes_eq-Decides}
 use Rattle.ct_names.specs.declared.limit.TheConstants.{MAX_BOUND, MAX_CELLS, MAX_MEMBERS}
 use Rattle.ct_names.proofs.Lists.{true_or_false}
@@ -36,14 +35,14 @@ use Rattle.ct_print.specs.Acts.{act_text}
 use Rattle.ct_print.specs.Goals.{goal_text}
 use Rattle.ct_print.specs.Lines.{given_text, question_text, suspecting_text, play_text, line_text}
 use Rattle.ct_print.specs.Members.{set_text, who_text}
-use Rattle.ct_print.specs.Writable.{IsSet, IsSomeSet, WhoFits, ActFits, GoalFits, GivenFits, QuestionFits, PlayFits, IsWritable}
+use Rattle.ct_print.specs.Writable.{IsSet, WhoFits, ActFits, GoalFits, GivenFits, QuestionFits, PlayFits, IsWritable}
 use Rattle.ct_print.specs.Writable.{IsStatement}
 use Rattle.ct_print.proofs.ActsRead.{number_is_first, member_is_first, whole_is_first, set_is_first, act_back, from_first}
 use Rattle.ct_print.proofs.CutsRead.{cut_words, cut_reads, cut_back}
 use Rattle.ct_print.proofs.FactsRead.{who_back}
 use Rattle.ct_print.proofs.Numeric.{decimal_numeric, numeric_other}
 use Rattle.ct_print.proofs.NoAnd.{as_read, number_says, whole_says, spoken}
-use Rattle.ct_print.proofs.Spoken.{act_words, act_says, set_says, quoted_reads, who_reads}
+use Rattle.ct_print.proofs.Spoken.{act_words, act_says, set_says, quoted_reads, some_length, some_set, who_reads}
 use Rattle.ct_print.proofs.TermsRead.{goal_words, goal_reads, goal_back}
 use Rattle.ct_print.proofs.TextWords.{Reads, beside, word_before, word_reads, words_from}
 
@@ -94,17 +93,13 @@ unfolding question_text
 question_reads Report h = search (as_read, spoken)
 question_reads _ h = search (as_read, spoken)
 
-some_set : (p : ℕ) (ps : List ℕ) → IsSet (p ∷ ps) → IsSomeSet (p ∷ ps)
-some_set p ps h = record { rising = h; some = omega arith }
-
 -- behind a text
 suspecting_reads : (text : List ℕ) (words : List Word) (set : List ℕ) → IsSet set → Reads text words →
     Reads (text ++ suspecting_text set) (words ++ suspecting_words set)
 unfolding suspecting_text
 suspecting_reads text words [] h k = rw (append-nil text, append-nil words) k
 suspecting_reads text words (p ∷ ps) h k =
-    let more : (length (p ∷ ps) == 0) ≡ false = grind (arith, nat_tests) in
-    rw more
+    rw (some_length p ps)
     (beside text (codes "suspecting" ++ 32 ∷ set_text (p ∷ ps)) words (codes "suspecting" ∷ set_text (p ∷ ps) ∷ []) k
     (word_before (codes "suspecting") _ _ refl (set_says (p ∷ ps) (some_set p ps h)).reads))
 

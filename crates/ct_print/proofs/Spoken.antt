@@ -1,6 +1,7 @@
 -- The words of texts that are written.
 use Rattle.std.proofs.Common.{◌≡◌, ℕ, ◌<◌, ◌≤◌, ◌==◌, Bool, true, false, List, [], ◌∷◌, ◌++◌, length, refl, arith, append-nil, subst}
 use Rattle.std.specs.Prelude.{codes, decimal, Option, Some, None}
+use Rattle.std.proofs.lemmas.Bool.Decides.{nat_tests}
 use Rattle.ct_names.specs.Group.{everyone}
 use Rattle.ct_names.specs.MemberSet.{has_member}
 use Rattle.ct_names.specs.Membership.{IsIn}
@@ -21,13 +22,19 @@ use Rattle.ct_grammar.specs.Numbers.{max_u8, max_u32}
 use Rattle.ct_grammar.specs.Words.{Word, words_of}
 use Rattle.ct_print.specs.Acts.{act_text, pick_text, sent_text, carried_text, command_text, message_word, place_word}
 use Rattle.ct_print.specs.Members.{set_text, list_text, who_text}
-use Rattle.ct_print.specs.Writable.{IsSomeSet, WhoFits, CommandFits, CarriedFits, PickFits, ActFits, IsQuotable}
+use Rattle.ct_print.specs.Writable.{IsSet, IsSomeSet, WhoFits, CommandFits, CarriedFits, PickFits, ActFits, IsQuotable}
 use Rattle.ct_print.proofs.NoAnd.{Says, said, says_beside, led, numeric_says, member_says, spoken}
 use Rattle.ct_print.proofs.Numeric.{IsNumeric, numeric_reads, numeric_behind, decimal_numeric, two_numeric, joined_numeric}
 use Rattle.ct_print.proofs.Parts.{AreSmall}
 use Rattle.ct_print.proofs.TextWords.{Reads, is_word, word_reads, joined_reads, words_are_words}
 
 -- ---- parts
+
+pub some_length : (p : ℕ) (ps : List ℕ) → (length (p ∷ ps) == 0) ≡ false
+some_length p ps = grind (arith, nat_tests)
+
+pub some_set : (p : ℕ) (ps : List ℕ) → IsSet (p ∷ ps) → IsSomeSet (p ∷ ps)
+some_set p ps h = record { rising = h; some = omega arith }
 
 pub small_members : (set : List ℕ) → IsSomeSet set → AreSmall set
 small_members set h q i =

@@ -9,6 +9,7 @@ use Rattle.ct_grammar.specs.declared.fact.Fact.TheVariants.{Waiting, Waits, Hear
 use Rattle.ct_grammar.specs.Words.{Word, text_of}
 use Rattle.ct_grammar.specs.Reasons.{reason_text}
 use Rattle.ct_print.specs.Acts.{act_text, pick_text}
+use Rattle.ct_print.specs.Members.{set_or_dash_text}
 
 abbrev pub phase_word : Phase → Word
 phase_word Rest = codes "Rest"
@@ -32,6 +33,6 @@ fact_text (Refuses act reason) = text_of (codes "refuses" ∷ act_text act ∷ r
 fact_text (May act) = text_of (codes "may" ∷ act_text act ∷ [])
 fact_text (Waiting n) = text_of (codes "waiting" ∷ decimal n ∷ [])
 fact_text (Waits pick) = text_of (codes "waits" ∷ pick_text pick ∷ [])
-fact_text (Heard quoted) = text_of (codes "heard" ∷ quoted ∷ [])
-fact_text (Acked quoted) = text_of (codes "acked" ∷ quoted ∷ [])
+fact_text (Heard set) = text_of (codes "heard" ∷ set_or_dash_text set ∷ [])
+fact_text (Acked set) = text_of (codes "acked" ∷ set_or_dash_text set ∷ [])
 fact_text (Estimate quoted) = text_of (codes "estimate" ∷ quoted ∷ [])

@@ -9,7 +9,11 @@ use Rattle.ct_grammar.specs.Words.{Word}
 unfoldable pub set_text : List ℕ → Word
 set_text set = join_with_byte 44 (map decimal set)
 
--- the same, as a list that has a comma: a member that is alone stands there twice
+-- the same; a dash where there are none
+unfoldable pub set_or_dash_text : List ℕ → Word
+set_or_dash_text set = if length set == 0 then codes "-" else set_text set
+
+-- the members, as a list that has a comma: a member that is alone stands there twice
 unfoldable pub list_text : List ℕ → Word
 list_text set = if length set == 1 then concat (set_text set ∷ codes "," ∷ set_text set ∷ []) else set_text set
 

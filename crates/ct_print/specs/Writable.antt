@@ -41,7 +41,6 @@ use Rattle.ct_grammar.specs.declared.term.Whom.TheVariants as whom
 use Rattle.ct_grammar.specs.declared.who.Who.{Who}
 use Rattle.ct_grammar.specs.declared.who.Who.TheVariants.{One, Some as Several, All}
 use Rattle.ct_grammar.specs.Claims.{amount_claim}
-use Rattle.ct_grammar.specs.Facts.{says_set}
 use Rattle.ct_grammar.specs.Goals.{is_and}
 use Rattle.ct_grammar.specs.Numbers.{max_u8, max_u32, max_u64}
 use Rattle.ct_grammar.specs.Sides.{whole, side_of}
@@ -72,10 +71,6 @@ pub record IsCut (sides : List ℕ) : Type 0 where
 
 -- ---- texts that are quoted
 
--- one word
-abbrev pub IsWord : List ℕ → Type 0
-IsWord text = words_of text ≡ text ∷ []
-
 -- its words, one at least, with a space between each two
 pub record IsQuotable (text : List ℕ) : Type 0 where
   pub words : text_of (words_of text) ≡ text
@@ -86,11 +81,6 @@ pub record IsQuoted (name : Word) (text : List ℕ) : Type 0 where
   pub quotable : IsQuotable text
   pub no_and : list_all (λ word. not (is_and word)) (words_of text) ≡ true
   pub plain : amount_claim name (words_of text) ≡ None
-
--- a set of members or `-`
-pub record IsSetText (text : List ℕ) : Type 0 where
-  pub word : IsWord text
-  pub set : says_set text ≡ true
 
 -- what is stated behind the act
 pub record IsStatement (act : Act) (said : List ℕ) : Type 0 where
@@ -155,8 +145,8 @@ FactFits (Refuses act reason) = ActFits act × IsRules reason
 FactFits (May act) = ActFits act
 FactFits (ManyWait n) = n ≤ max_u32
 FactFits (Waits pick) = PickFits pick
-FactFits (Heard quoted) = IsSetText quoted
-FactFits (Acked quoted) = IsSetText quoted
+FactFits (Heard set) = IsSet set
+FactFits (Acked set) = IsSet set
 FactFits (Estimate quoted) = IsQuoted (codes "estimate") quoted
 
 -- ---- goals

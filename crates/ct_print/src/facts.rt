@@ -4,11 +4,14 @@ ghost use Rattle.std.specs.Prelude.{◌≡◌, ◌++◌, [], ◌∷◌, OnOk, co
 ghost use Rattle.ct_grammar.specs.Words.{text_of};
 ghost use Rattle.ct_print.specs.Acts.{act_text};
 ghost use Rattle.ct_print.specs.Facts.{fact_text, phase_word};
+ghost use Rattle.ct_print.specs.Members.{set_or_dash_text};
 ghost use Rattle.ct_grammar.specs.Reasons.{reason_text};
 
 use crate::acts::{push_act, push_picked};
+use crate::members::push_set;
 use ct_grammar::{Act, Fact, Reason, Text};
 use ct_model::Phase;
+use ct_names::MemberSet;
 use std::alloc::AllocError;
 
 /// A fact.
@@ -34,8 +37,8 @@ pub(crate) fn push_fact(text: &mut String, fact: &Fact) -> Result<(), AllocError
         }
         Fact::Waiting(count) => write!(text, "waiting {count}"),
         Fact::Waits(pick) => push_picked(text, "waits ", *pick),
-        Fact::Heard(quoted) => push_quoted(text, "heard ", quoted),
-        Fact::Acked(quoted) => push_quoted(text, "acked ", quoted),
+        Fact::Heard(set) => push_members(text, "heard ", *set),
+        Fact::Acked(set) => push_members(text, "acked ", *set),
         Fact::Estimate(quoted) => push_quoted(text, "estimate ", quoted),
     }
 }
@@ -46,6 +49,19 @@ fn push_quoted(text: &mut String, word: &str, quoted: &Text) -> Result<(), Alloc
 {
     text.push_str(word)?;
     text.push_str(quoted.as_str())
+}
+
+// The word and the members of the set; a dash where there are none.
+#[tactic(auto, unfolding(crate::specs::Members::set_or_dash_text))]
+fn push_members(text: &mut String, word: &str, set: MemberSet) -> Result<(), AllocError>
+    ensures { OnOk result (string_bytes text.new ≡ string_bytes text.old ++ word.now ++ set_or_dash_text set) }
+{
+    text.push_str(word)?;
+    if set.is_empty() {
+        text.push_str("-")
+    } else {
+        push_set(text, set)
+    }
 }
 
 // `phase` and its name.
