@@ -62,6 +62,7 @@ impl Line {
     }
 
     /// The first place of the serial, counted from 0.
+    #[inline(always)]
     pub(crate) fn find(&self, serial: Serial, moves: &Moves) -> Option<usize>
         requires { moves.now.is_sorted ≡ true → IsRising moves.now.keys.items moves.now.base self.now.serials }
         ensures { result ≡ place_of serial self.now.serials }
@@ -94,6 +95,7 @@ impl Line {
     }
 
     /// The serial comes to the end.
+    #[inline(always)]
     pub(crate) fn join(&mut self, serial: Serial)
         requires { 0 < self.old.room }
         ensures serials { self.new.serials ≡ self.old.serials ++ serial ∷ [] }

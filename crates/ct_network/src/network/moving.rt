@@ -22,6 +22,7 @@ impl Network {
 
     /// The serial at this place of the member's line, which `find` answers, moves to the end; the others stay in order.
     /// Takes no memory.
+    #[inline(always)]
     pub fn postpone(&mut self, member: Member, place: usize)
         requires room { IsTrue self.old.has_room }
         requires member { is_member (length self.old.lines) member ≡ true }
