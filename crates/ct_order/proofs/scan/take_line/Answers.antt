@@ -1,0 +1,14 @@
+use Rattle.std.proofs.Common.{◌+◌, ◌∙◌, Option, Result, subst}
+use Rattle.ct_order.specs.declared.no_line.NoLine.{NoLine}
+use Rattle.ct_order.specs.Lines.{Entry}
+use Rattle.ct_order.specs.Scanning.{told}
+use Rattle.ct_order.specs.Taking.{MovesLine}
+use Rattle.ct_order.proofs.Worded.{event_is}
+use Rattle.ct_order.proofs.scan.take_line.Goals as goal
+
+pub returns-in-Ok : goal.returns-in-Ok
+returns-in-Ok c =
+    subst (λ (e : Result (Option Entry) NoLine). MovesLine (told c.args.log
+    (record c.args.standing.now { count = c.args.standing.now.count + 1 }) e)
+    c.args.table.now c.take_event-done.new.standing c.take_event-done.new.table c.take_event-done.result)
+    (c.event_of.ensures ∙ event_is c.args.line.now c.trimmed-text.result.now c.trimmed-text.ensures) c.take_event-done.ensures

@@ -1,0 +1,12 @@
+pub mod Said
+pub mod Orders
+pub mod Knowing
+pub mod Lines
+pub mod Json
+pub mod Scanning
+pub mod Taking
+pub mod Reading
+pub mod Verdicts
+pub mod Faults
+pub mod Ending
+pub mod Line
