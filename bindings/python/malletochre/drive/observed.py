@@ -5,8 +5,9 @@ gives. In the end, where nothing was lost: who is up has delivered all that was 
 from __future__ import annotations
 
 from collections import Counter
-from typing import Dict, List, Optional, Tuple
+from typing import Any, Dict, List, Optional, Tuple
 
+from ..order import Order, OutOfOrder
 from .account import Account, Difference
 from .letters import Command, Name, value_text
 from .network import Event, Network, Packet, event_text
@@ -20,7 +21,7 @@ class Observed:
         self.commands: Dict[Name, Command] = {}
         self.submitted = {p: 0 for p in network.all}
         self.delivered: Dict[int, List[Name]] = {p: [] for p in network.all}
-        self.order: List[Name] = []     # the longest sequence
+        self.order: Order[Name] = Order()
         self.is_lossy = False
         self.taken: List[Event] = []
         self.met: "Counter[str]" = Counter()
@@ -37,25 +38,23 @@ class Observed:
         self.taken.append(event)
         if event.name == "submit":
             self.submitted[event.member] += 1
-            self.commands[event.member, self.submitted[event.member]] = event.what
+            name = event.member, self.submitted[event.member]
+            self.commands[name] = event.what
+            self.order.broadcast(event.member, name)
+        elif event.name == "crash":
+            self.order.crash(event.member)
         return None
 
     def explain(self, event: Event, packet: Optional[Packet], account: Account) -> Optional[Difference]:
         self.happens(event, packet, account)
-        p, mine = account.p, self.delivered[account.p]
+        p = account.p
         for message in account.delivered:
             says = f"delivers {value_text([message])}"
-            if message not in self.commands:
-                return Difference("validity", p, says, "delivers what was submitted")
-            if message in mine:
-                return Difference("integrity", p, f"{says} again", "delivers each message once")
-            mine.append(message)
-            if len(mine) > len(self.order):
-                self.order.append(message)
-            there = self.order[len(mine) - 1]
-            if there != message:
-                ought = f"delivers {value_text([there])} there, as another member did"
-                return Difference("order", p, f"{says} at place {len(mine)}", ought)
+            try:
+                self.order.deliver(p, message)
+            except OutOfOrder as wrong:
+                return _difference(p, says, wrong, self.order.at(wrong.position))
+            self.delivered[p].append(message)
         return None
 
     def table(self, p: int, table: List[int]) -> Optional[Difference]:
@@ -67,16 +66,25 @@ class Observed:
     def stuck(self) -> Optional[Difference]:
         if self.is_lossy or 2 * len(self.network.up) <= self.network.n:
             return None
-        ought = {(p, number) for p in self.network.up for number in range(1, self.submitted[p] + 1)} | set(self.order)
         for p in self.network.up:
-            missing = sorted(ought - set(self.delivered[p]))
+            missing = self.order.missing(p)
             if missing:
-                says = f"never delivers {value_text(missing)}, though nothing more is on its way"
+                says = f"never delivers {value_text(sorted(missing))}, though nothing more is on its way"
                 return Difference("liveness", p, says, "delivers it in the end")
         return None
 
     def lines(self) -> List[Tuple[str, str]]:
         return [("", event_text(it)) for it in self.taken]
+
+
+def _difference(p: int, says: str, wrong: OutOfOrder, there: Any) -> Difference:
+    """What no atomic broadcast does, told as a difference; there is what others delivered in its place."""
+    if wrong.kind == "validity":
+        return Difference("validity", p, says, "delivers what was submitted")
+    if wrong.kind == "integrity":
+        return Difference("integrity", p, f"{says} again", "delivers each message once")
+    ought = f"delivers it at place {wrong.before}" if wrong.before else f"delivers {value_text([there])} there"
+    return Difference("order", p, f"{says} at place {wrong.position}", f"{ought}, as another member did")
 
 
 def _execute(table: List[int], command: Command) -> None:
