@@ -6,7 +6,8 @@ programs' help and of docs/man/*.text.
 
 All is run in a copy of docs/, examples/, bench/, cases/ and bindings/python/, in which crates/NAME/out/NAME and, on the path, NAME are the
 built programs. At the beginning of each document and each help run.json and another.json are a record, run.txt a schedule, 1.log, 2.log
-and 3.log the logs of a run's members; commands find what those before them wrote. A block is told by its first line:
+and 3.log the logs of a run's members (about `order` a.log, b.log and c.log those of processes); commands find what those before them wrote.
+A block is told by its first line:
 
     members N               a schedule: `ct_tool record` writes its record, which is replayed; a line `..` stands for others
     {"batch": ..            a record, which is replayed; commands behind it find it as record.json
@@ -60,7 +61,13 @@ NOT_RUN = {
     ("docs/LOGS.md", "presumed: 12 steps of member 2, 1 step of member 4; 5 members, 825 lines; instances 3, largest round 4, suspicions 7, "
      "choices .."): "what is told of a run with presumed steps",
     ("docs/ARCHITECTURE.md", "programs               ct             ct_tool             ct_growths"): "a drawing",
+    ("docs/ORDER.md", "broadcast a1      it submitted the message of this name"): "each line of a log, with what it says",
+    **{("docs/ORDER.md", line): "what is told of other logs; cases/orders.py has such lines" for line in (
+        "accepted: 3 logs, 812 deliveries; b.log is 3 behind; c.log crashed",
+        "refused: b.log line 40: deliver m9: position 17: a.log line 38 delivered m8")},
 }
+# What the processes a, b and c log, where it is about `order`.
+ORDERED = {name: f"broadcast {name}1\ndeliver a1\ndeliver b1\ndeliver c1\nend\n" for name in "abc"}
 # So many of each kind are there at least.
 LEAST = {"schedule": 1, "record": 1, "python": 2, "transcript": 7, "program": 1, "command": 25, "output": 9, "example": 22}
 BUILT = re.compile(r"\(cd crates/(ct|ct_tool) && rt (?:run|try) -- ")
@@ -151,10 +158,15 @@ class Tree:
         with open(os.path.join(self.folder, name), "w", encoding="utf-8") as file:
             file.write(text)
 
-    def renew(self) -> None:
-        """Makes run.json, another.json, run.txt and the logs."""
-        self.run("ct_tool walk --members 3 --seed 7 --turns 60 > run.json")
-        self.run("cp run.json another.json; cp examples/followers.schedule run.txt; python3 bench/split.py . < run.json")
+    def renew(self, where: str) -> None:
+        """Makes run.json, another.json, run.txt and the logs, which are those of any atomic broadcast where it is about `order`."""
+        self.run("rm -f *.log; ct_tool walk --members 3 --seed 7 --turns 60 > run.json")
+        self.run("cp run.json another.json; cp examples/followers.schedule run.txt")
+        if re.search("order( --help|.md)$", where, re.IGNORECASE):
+            for name, text in ORDERED.items():
+                self.write(f"{name}.log", text)
+        else:
+            self.run("python3 bench/split.py . < run.json")
 
     def run(self, command: str, text: str = "") -> Done:
         """Runs a command on the text."""
@@ -235,7 +247,7 @@ class Document:
         self.compared: List[int] = []   # places of blocks that were compared with what commands wrote
 
     def run(self) -> None:
-        self.cases.tree.renew()
+        self.cases.tree.renew(self.name)
         for place, part in enumerate(self.parts):
             if not part.is_block or self.cases.is_left_out(self.name, part.lines[0]):
                 continue
@@ -343,7 +355,7 @@ def run_examples(cases: Cases) -> None:
             texts[f"{program} {name} --help"] = cases.tree.run(f"{program} {name} --help").output
         texts[f"docs/man/{program}.text"] = read("docs", "man", f"{program}.text")
         for where, text in texts.items():
-            cases.tree.renew()
+            cases.tree.renew(where)
             for command in examples_in(text):
                 cases.command("example", where, command)
 

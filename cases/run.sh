@@ -601,10 +601,12 @@ tally 'a log that nobody reads' "$(start_of "$folder/error")"
 
 check_by sessions.py sessions 60 "$tool"
 check_by logs.py logs 600 "$tool"
+check_by orders.py orders 300 "$tool"
 check_by goals.py goals 600 "$tool"
 check_by search.py search 600 "$tool"
 check_by terminal.py terminal 300 "$tool"
 check_by waiting.py 'lines where much waits' 300 "$ct" "$tool"
+command -v etcd corosync >/dev/null && check_by systems.py 'orders of real systems' 600 "$tool"
 
 check_free_runs 'free runs'
 check_free_runs 'lossy free runs' --lose 20 --repeat 40 --batch 1

@@ -20,6 +20,7 @@ MEASURES = {
     "docs/GOALS.md": 1400,
     "docs/LIBRARY.md": 800,
     "docs/LOGS.md": 1600,
+    "docs/ORDER.md": 500,
     "docs/PAPER.md": 700,
     "docs/PROOFS.md": 1200,
     "docs/SCHEDULES.md": 1600,

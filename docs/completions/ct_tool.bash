@@ -7,7 +7,7 @@
 _ct_tool_words() {
     case $1 in
     '')
-        commands='check complete diagram find interact merge record report schedule shrink state steps walk help'
+        commands='check complete diagram find interact merge order record report schedule shrink state steps walk help'
         options='-h --help -V --version'
         values=''
         operands='command'
@@ -43,6 +43,11 @@ _ct_tool_words() {
     merge)
         options='--record --presume --follow --idle -h --help'
         values='--idle=any'
+        operands='file+'
+        ;;
+    order)
+        options='--settled --fifo --json -h --help'
+        values=''
         operands='file+'
         ;;
     record)

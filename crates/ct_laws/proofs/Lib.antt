@@ -14,6 +14,7 @@ pub mod Hearing
 pub mod MemberFacts
 pub mod MildTexts
 pub mod Numbered
+pub mod Ordering
 pub mod Passing
 pub mod Placing
 pub mod Plain

@@ -4,6 +4,7 @@ pub mod Facts
 pub mod Fitting
 pub mod JsonSteps
 pub mod JsonValues
+pub mod Orders
 pub mod Places
 pub mod Refusals
 pub mod Rights

@@ -20,6 +20,7 @@ use ct_find::find_command;
 use ct_judge::{interact_command, record_command};
 use ct_listing::schedule_command;
 use ct_logs::merge_command;
+use ct_order::order_command;
 use ct_program::{CommandFault, answer_status};
 use ct_shrink::shrink_command;
 use ct_streams::Counted;
@@ -31,7 +32,7 @@ use ct_walk::walk_command;
 use ending::close;
 use host::Host;
 use searching::{find, walk};
-use sessions::{hold_session, merge};
+use sessions::{hold_session, merge, order};
 use showing::{complete, diagram, record_schedule, schedule, shrink, view};
 use std::alloc::{AllocError, Global};
 use std::io::{self, ErrorKind};
@@ -71,6 +72,7 @@ fn command<'a>(alloc: Global) -> Result<Command<'a>, AllocError> {
         .subcommand(find_command(alloc)?)?
         .subcommand(interact_command(alloc)?)?
         .subcommand(merge_command(alloc)?)?
+        .subcommand(order_command(alloc)?)?
         .subcommand(record_command(alloc)?)?
         .subcommand(report_command(alloc)?)?
         .subcommand(schedule_command(alloc)?)?
@@ -93,6 +95,7 @@ fn call<R: Threads + Sync>(
         Some(("find", found)) => find(rt, threads, found),
         Some(("interact", found)) => hold_session(rt, found),
         Some(("merge", found)) => merge(rt, found),
+        Some(("order", found)) => order(rt, found),
         Some(("record", found)) => record_schedule(rt, found),
         Some(("report", found)) => view(rt, found, Ok(View::Report)),
         Some(("schedule", found)) => schedule(rt, found),

@@ -1,4 +1,4 @@
-//! The commands that answer lines and merge logs.
+//! The commands that answer lines, and merge and judge logs.
 
 use crate::clockwork::Clockwork;
 use crate::ending::{close, done, refuse, written};
@@ -6,6 +6,7 @@ use crate::host::{Host, can_write};
 use clap::ArgMatches;
 use ct_judge::{Heard, KeepFault, LineRefused, interact, keep};
 use ct_logs::{MergeFault, Told, Way, merge_form, merge_idle, merge_logs};
+use ct_order::{order_asked, order_logs};
 use ct_streams::{Counted, FileFault, NamedFault};
 use std::io;
 use std::process::ExitCode;
@@ -93,4 +94,14 @@ fn end_merge(
     let status = told.status();
     let Told { text, .. } = told;
     Err(close(rt, text, status))
+}
+
+// Judges the logs of any atomic broadcast that the words name.
+pub(crate) fn order(rt: &HostRuntime, found: &ArgMatches<'_>) -> Result<(), ExitCode> {
+    let names = found.get_strs("files").unwrap_or(&[]);
+    let (alloc, host) = (rt.alloc(), Host::new(rt));
+    let mut writer = Counted::new(io::writer(rt));
+    let ended = order_logs(alloc, &host, names, order_asked(found), &mut writer);
+    written(rt, ended, writer.is_broken())?;
+    Ok(())
 }
