@@ -37,7 +37,7 @@ CASES = [
     Case("a restart that differs", {"a": A, "b": "deliver x\nrestart 0\ndeliver y\n"}, 1,
          "refused: b line 3: deliver y: position 1: a line 3 delivered x\n"),
     Case("a snapshot", {"a": A, "b": "from 1\ndeliver y\nstate s2\n"}, 0, "accepted: 2 logs, 2 deliveries\n"),
-    Case("a snapshot that goes back", {"a": A, "b": "deliver x\nfrom 0\n"}, 1, "refused: b line 2: from 0: 1 deliveries stand before it\n"),
+    Case("a snapshot that goes back", {"a": A, "b": "deliver x\nfrom 0\n"}, 1, "refused: b line 2: from 0: behind 1 deliveries: a snapshot has no fewer\n"),
     Case("a position of which nothing is told", {"a": "broadcast x\nfrom 7\ndeliver x\n"}, 0, "accepted: 1 log, 8 deliveries\n"),
     Case("another order", {"a": A, "b": "deliver y\n"}, 1, "refused: b line 1: deliver y: position 1: a line 3 delivered x\n"),
     Case("delivered again", {"a": A, "b": "deliver x\ndeliver y\ndeliver x\n"}, 1,

@@ -16,7 +16,7 @@ use Rattle.ct_order.specs.declared.act.Act.{Act}
 use Rattle.ct_order.specs.declared.act.Act.TheVariants.{Broadcast, Deliver, State, From}
 use Rattle.ct_order.specs.Orders.{IsAtomic, IsBroadcast, IsOrder}
 use Rattle.ct_laws.specs.Orders.{AreToldOf, Delivers}
-use Rattle.ct_order.specs.Said.{IsIn, Said}
+use Rattle.ct_order.specs.Orders.{IsIn, Said}
 
 -- ---- places in lists
 

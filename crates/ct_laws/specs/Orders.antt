@@ -7,7 +7,7 @@ use Rattle.ct_model.specs.Rehearsal.{Rehearsal, state_of}
 use Rattle.ct_model.specs.Safe.{delivered_by}
 use Rattle.ct_order.specs.declared.act.Act.TheVariants.{Broadcast, Deliver}
 use Rattle.ct_order.specs.Orders.{IsBroadcast}
-use Rattle.ct_order.specs.Said.{Said, IsIn}
+use Rattle.ct_order.specs.Orders.{Said, IsIn}
 
 -- the line broadcasts a message that was submitted, by this name
 pub record Submits (w : Rehearsal) (name : Message → List ℕ) (s : Said) : Type 0 where

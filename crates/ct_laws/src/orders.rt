@@ -6,7 +6,7 @@ ghost use Rattle.ct_model.specs.Lawful.{IsLawful};
 ghost use Rattle.ct_model.specs.Rehearsal.{Rehearsal};
 ghost use Rattle.ct_order.specs.Orders.{IsAtomic};
 ghost use Rattle.ct_laws.specs.Orders.{AreToldOf};
-ghost use Rattle.ct_order.specs.Said.{Said};
+ghost use Rattle.ct_order.specs.Orders.{Said};
 
 /// What is submitted and delivered in a run of the algorithm is that of an atomic broadcast (Chandra and Toueg, section 7): lines that
 /// tell of nothing else, by names that differ for different messages, are accepted.

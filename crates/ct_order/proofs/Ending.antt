@@ -1,6 +1,7 @@
 -- What is told of texts is so.
 use Rattle.std.proofs.Common.{◌≡◌, ℕ, inl, Bool, List, sym, [], ◌∷◌, ◌&&◌, ap, refl}
 use Rattle.std.specs.List.{list_all}
+use Rattle.ct_order.specs.Knowing.{AreSent, IsUnsentAt}
 use Rattle.ct_order.specs.declared.place.Delivery.{Delivery}
 use Rattle.ct_order.specs.declared.reading.LogEnd.{LogEnd}
 use Rattle.ct_order.specs.declared.standing.Standing.{Standing}
@@ -10,9 +11,8 @@ use Rattle.ct_order.specs.declared.stop.Unread.{Unread}
 use Rattle.ct_order.specs.declared.table.Table.{Table}
 use Rattle.ct_order.specs.declared.wrong.Wrong.TheVariants.{NoLog, Refused}
 use Rattle.ct_order.specs.Ending.{AreAtomic, AreNoLogs, Contradict, IsWrong, LackBroadcast}
-use Rattle.ct_order.specs.Reading.{IsHaltIn, IsReadFrom, standings_of}
+use Rattle.ct_order.specs.Reading.{IsHaltIn, IsReadFrom, are_whole, standings_of}
 use Rattle.ct_order.specs.Taking.{fault_of, said_of}
-use Rattle.ct_order.specs.Verdicts.{AreSent, IsUnsentAt, are_whole}
 use Rattle.ct_order.proofs.Judging.{all_broadcast, has_order, is_unsent_at}
 use Rattle.ct_order.proofs.Logs.{are_logs, no_contradiction}
 

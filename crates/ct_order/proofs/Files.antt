@@ -1,16 +1,15 @@
 -- Files read as logs.
-use Rattle.std.proofs.Common.{◌≡◌, ℕ, ◌+◌, ◌<◌, ◌≤◌, List, [], ◌∷◌, ◌++◌, length, map, take, get_or, Option, Some, None, slice_get}
+use Rattle.std.proofs.Common.{◌≡◌, ℕ, ◌+◌, ◌<◌, List, [], ◌∷◌, ◌++◌, length, map, take, get_or, Option, Some, None, slice_get}
 use Rattle.std.proofs.Common.{refl, sym, ap, ◌∙◌, subst, arith, append_assoc, option_map, min, Ok}
 use Rattle.std.specs.Io.KnownBytes.{Consumes, IsAtEnd}
-use Rattle.std.proofs.lemmas.List.{append-nil, length-map, length-take, map_push, take_all, take_more}
+use Rattle.std.proofs.lemmas.List.{append-nil, length-map, length-take, map_push, take_more}
 use Rattle.std.proofs.lemmas.Option.{same_Some, slice_get-get_or, slice_get-map}
 use Rattle.ct_order.specs.declared.reading.LogEnd.{LogEnd}
 use Rattle.ct_order.specs.declared.standing.Standing.{Standing}
 use Rattle.ct_order.specs.declared.stop.Stop.{Stop}
 use Rattle.ct_order.specs.declared.stop.Stop.TheVariants as stop
 use Rattle.ct_order.specs.declared.table.Table.{Table}
-use Rattle.ct_order.specs.Knowing.{KnowsTable}
-use Rattle.ct_order.specs.Reading.{AreTexts, HasSaid, IsHaltIn, IsReadFrom, IsStopIn, IsWhole, after_texts, standings_of}
+use Rattle.ct_order.specs.Reading.{AreTexts, HasSaid, IsHaltIn, IsReadFrom, IsStopIn, IsWhole, standings_of}
 use Rattle.ct_order.specs.Scanning.{Scanning, after_bytes, beginning}
 use Rattle.ct_order.specs.Taking.{Stops, Takes}
 use Rattle.ct_order.proofs.Logs.{logs_push}
@@ -88,8 +87,8 @@ module _ {X : Type 0} (bytes : List ℕ → Option (List ℕ)) (f : X → List �
   text_at i d lt =
       let few : i < length texts = subst (λ n. i < n) (sym as_many) lt in
       let left : slice_get (map bytes (map f names)) i ≡ Some (bytes (f (get_or names i d))) =
-      slice_get-map bytes (map f names) i ∙ ap (option_map bytes) (slice_get-map f names i
-      ∙ ap (option_map f) (slice_get-get_or names i d lt)) in
+      slice_get-map bytes (map f names) i
+      ∙ ap (option_map bytes) (slice_get-map f names i ∙ ap (option_map f) (slice_get-get_or names i d lt)) in
       let right : slice_get (map (λ (text : List ℕ). Some text) texts) i ≡ Some (Some (get_or texts i [])) =
       slice_get-map (λ (text : List ℕ). Some text) texts i
       ∙ ap (option_map (λ (text : List ℕ). Some text)) (slice_get-get_or texts i [] few) in
@@ -139,14 +138,3 @@ module _ {X : Type 0} (bytes : List ℕ → Option (List ℕ)) (f : X → List �
         halts stop.Lines h = tt
         halts (stop.File place fault) h = tt
         halts stop.Memory h = tt
-
-pub files_none : (texts : List (List ℕ)) (t : Table) → KnowsTable t [] → IsReadFrom (take 0 texts) [] t
-files_none texts t knows = record { said = []; has_said = ap (after_texts 0) (take-zero texts); knows = knows }
-  where
-    take-zero : (l : List (List ℕ)) → take 0 l ≡ []
-    take-zero [] = refl
-    take-zero (x ∷ xs) = refl
-
-pub files_all : (texts : List (List ℕ)) (n : ℕ) (ends : List Standing) (t : Table) → length texts ≤ n → IsReadFrom (take n texts) ends t →
-    IsReadFrom texts ends t
-files_all texts n ends t few h = subst (λ (l : List (List ℕ)). IsReadFrom l ends t) (take_all n texts few) h

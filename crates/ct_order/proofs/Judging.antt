@@ -1,6 +1,6 @@
 -- What a table says of all the lines.
-use Rattle.std.proofs.Common.{◌≡◌, ◌≢◌, ℕ, zero, suc, Bool, true, false, List, [], ◌∷◌, ◌++◌, inl, inr, Option, Some, None, slice_get}
-use Rattle.std.proofs.Common.{refl, sym, ap, ◌∙◌}
+use Rattle.std.proofs.Common.{◌≡◌, ℕ, zero, suc, Bool, true, false, List, [], ◌∷◌, ◌++◌, inl, inr, Option, Some, None, slice_get, refl}
+use Rattle.std.proofs.Common.{sym, ap, ◌∙◌}
 use Rattle.std.proofs.Common.{subst, arith, string_bytes, option_map, is_some, nat_eq, ◌&&◌, true≢false}
 use Rattle.std.specs.HashMap.{get_by_text}
 use Rattle.std.specs.List.{list_all}
@@ -12,10 +12,8 @@ use Rattle.ct_order.specs.declared.clash.Clash.TheVariants as clash
 use Rattle.ct_order.specs.declared.place.Delivery.{Delivery}
 use Rattle.ct_order.specs.declared.table.Table.{Table}
 use Rattle.ct_order.specs.declared.told.Told.{Told}
-use Rattle.ct_order.specs.Knowing.{Known, Knows, KnowsTable}
-use Rattle.ct_order.specs.Orders.{AreBroadcast, HasOrder, IsClash}
-use Rattle.ct_order.specs.Said.{Said, IsIn, said_at}
-use Rattle.ct_order.specs.Verdicts.{AreSent, IsUnsent, IsUnsentAt}
+use Rattle.ct_order.specs.Knowing.{AreSent, IsUnsentAt, Known, Knows, KnowsTable}
+use Rattle.ct_order.specs.Orders.{AreBroadcast, HasOrder, IsClash, IsIn, IsUnsent, Said, said_at}
 
 word_in : Told → List ℕ
 word_in v = string_bytes v.word

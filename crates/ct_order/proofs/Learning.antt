@@ -1,6 +1,7 @@
 -- What is known after one more line.
-use Rattle.std.proofs.Common.{◌≡◌, ◌≢◌, ℕ, ◌<◌, ◌≤◌, Bool, true, false, cond, List, [], ◌∷◌, ◌++◌, ◌⊎◌, inl, inr, Option, Some, None}
-use Rattle.std.proofs.Common.{refl, sym, ap, ◌∙◌, subst}
+use Rattle.std.proofs.Common.{◌≡◌, ℕ, ◌<◌, ◌≤◌, Bool, true, false, cond, List, [], ◌∷◌, ◌++◌, ◌⊎◌, inl, inr, Option, Some, None, refl}
+use Rattle.std.proofs.Common.{sym, ap, ◌∙◌, subst}
+use Rattle.std.specs.Prelude.{⊤}
 use Rattle.std.proofs.Common.{string_bytes, MatchOption, bytes_eq, nat_eq, true≢false, String, Decides, eq-eqb}
 use Rattle.std.specs.HashMap.{HashMap, UpdatesBy, get, get_by_text}
 use Rattle.std.specs.String.{string_eq}
@@ -17,8 +18,7 @@ use Rattle.ct_order.specs.declared.place.Place.{Place}
 use Rattle.ct_order.specs.declared.table.Table.{Table}
 use Rattle.ct_order.specs.declared.told.Told.{Told}
 use Rattle.ct_order.specs.Knowing.{IsKept, IsOther, IsSent, Keeps, Known, Knows, Tells, known_in}
-use Rattle.ct_order.specs.Orders.{IsClash, IsOneWord}
-use Rattle.ct_order.specs.Said.{Said, IsIn, place_of, said_at}
+use Rattle.ct_order.specs.Orders.{IsClash, IsIn, IsOneWord, Said, place_of, said_at}
 
 -- ---- one more line
 
@@ -32,8 +32,8 @@ in_last t [] = inl refl
 in_last t (x ∷ xs) = inr (in_last t xs)
 
 -- what is so of the lines before it and of this one is so of all
-each_in : (P : Said → Type 0) (t : Said) (seen : List Said) → ((s : Said) → IsIn s seen → P s) → P t → (s : Said) →
-    IsIn s (seen ++ t ∷ []) → P s
+each_in : (P : Said → Type 0) (t : Said) (seen : List Said) → ((s : Said) → IsIn s seen → P s) → P t →
+    (s : Said) → IsIn s (seen ++ t ∷ []) → P s
 each_in P t [] h p s (inl e) = subst P (sym e) p
 each_in P t [] h p s (inr i) = absurd i
 each_in P t (x ∷ xs) h p s (inl e) = h s (inl e)
@@ -102,35 +102,30 @@ module _ (a : Act) (f : ℕ → Option Told) (seen : List Said) (h : Keeps a f s
 
 -- ---- what is known
 
--- nothing was said
-pub nothing : (t : Known) → ((x : List ℕ) → t.sent x ≡ None) → ((x : List ℕ) → t.placed x ≡ None) → ((p : ℕ) → t.order p ≡ None) →
-    ((p : ℕ) → t.states p ≡ None) → Knows t []
-nothing t sent placed order states = record {
-  order = record { all = λ s i act. absurd i; each = λ p v at. absurd (none-some v (sym (order p) ∙ at)) };
-  states = record { all = λ s i act. absurd i; each = λ p v at. absurd (none-some v (sym (states p) ∙ at)) };
-  placed = λ x d at. absurd (none-some d (sym (placed x) ∙ at));
-  once = λ p v at. absurd (none-some v (sym (order p) ∙ at));
-  broadcast = λ s i act. absurd i;
-  sent = λ x l at. absurd (none-some l (sym (sent x) ∙ at));
-  forwards = λ s n i act. absurd i;
-}
+-- the line says what is known, by its act
+abbrev pub IsAs : Known → Said → Act → Type 0
+IsAs t s Deliver = IsKept t.order s.at s.word
+IsAs t s State = IsKept t.states s.at s.word
+IsAs t s Broadcast = IsSent t s.word
+IsAs t s (From n) = s.at ≤ n
+IsAs t s _ = ⊤
 
 module _ (t : Known) (seen : List Said) (h : Knows t seen) (s : Said) where
   forwards_more : ((n : ℕ) → s.act ≡ From n → s.at ≤ n) → (r : Said) (n : ℕ) → IsIn r (seen ++ s ∷ []) → r.act ≡ From n → r.at ≤ n
   forwards_more low r n i act = each_in (λ (q : Said). (m : ℕ) → q.act ≡ From m → q.at ≤ m) s seen (λ q j m. h.forwards q m j) low r i n act
 
-  -- the line says what is known
-  pub more : (s.act ≡ Deliver → IsKept t.order s.at s.word) → (s.act ≡ State → IsKept t.states s.at s.word) →
-      (s.act ≡ Broadcast → IsSent t s.word) → ((n : ℕ) → s.act ≡ From n → s.at ≤ n) → Knows t (seen ++ s ∷ [])
-  more d w b low = record {
-    order = keeps_more Deliver t.order seen h.order s d;
-    states = keeps_more State t.states seen h.states s w;
-    placed = λ x e at. in_more (said_at e.place e.at Deliver x) s seen (h.placed x e at);
-    once = h.once;
-    broadcast = each_in (λ (r : Said). r.act ≡ Broadcast → IsSent t r.word) s seen h.broadcast b;
-    sent = λ x l at. let m = h.sent x l at in (m.0, in_more (said_at l m.0 Broadcast x) s seen m.1);
-    forwards = forwards_more low;
-  }
+  more : IsAs t s s.act → Knows t (seen ++ s ∷ [])
+  more new =
+      let by = λ (a : Act) (is : s.act ≡ a). subst (λ (b : Act). IsAs t s b) is new in
+      record {
+        order = keeps_more Deliver t.order seen h.order s (by Deliver);
+        states = keeps_more State t.states seen h.states s (by State);
+        placed = λ x e at. in_more (said_at e.place e.at Deliver x) s seen (h.placed x e at);
+        once = h.once;
+        broadcast = each_in (λ (r : Said). r.act ≡ Broadcast → IsSent t r.word) s seen h.broadcast (by Broadcast);
+        sent = λ x l at. let m = h.sent x l at in (m.0, in_more (said_at l m.0 Broadcast x) s seen m.1);
+        forwards = forwards_more (λ n. by (From n));
+      }
 
   -- a message is broadcast for the first time
   pub sent_new : (g : List ℕ → Option Place) → s.act ≡ Broadcast → t.sent s.word ≡ None → Sets t.sent g s.word (place_of s) →
@@ -223,37 +218,20 @@ module _ (t : Known) (seen : List Said) (h : Knows t seen) (s : Said) where
 
 -- ---- what is told of the table
 
+pub tells_as : (t : Table) (s : Said) (act : Act) → s.act ≡ act → IsAs (known_in t) s act → Tells t t s None
+tells_as t s act is new = λ seen h. more (known_in t) seen h s (subst (λ (a : Act). IsAs (known_in t) s a) (sym is) new)
+
 pub tells_kept : (t : Table) (s : Said) (v : Told) (r : Option Clash) →
     MatchOption r (string_bytes v.word ≡ s.word) (λ c. IsOther v s.word c) →
     (s.act ≡ Deliver → (known_in t).order s.at ≡ Some v → Tells t t s r)
     × (s.act ≡ State → (known_in t).states s.at ≡ Some v → Tells t t s r)
-tells_kept t s v None e = (
-  λ is at seen h. more (known_in t) seen h s (λ a. (v, at, e)) (λ a. let no : Deliver ≡ State = sym is ∙ a in cc)
-      (λ a. let no : Deliver ≡ Broadcast = sym is ∙ a in cc) (λ n a. let no : Deliver ≡ From n = sym is ∙ a in cc),
-  λ is at seen h. more (known_in t) seen h s (λ a. let no : State ≡ Deliver = sym is ∙ a in cc) (λ a. (v, at, e))
-      (λ a. let no : State ≡ Broadcast = sym is ∙ a in cc) (λ n a. let no : State ≡ From n = sym is ∙ a in cc),
-)
+tells_kept t s v None e = (λ is at. tells_as t s Deliver is (v, at, e), λ is at. tells_as t s State is (v, at, e))
 tells_kept t s v (Some c) m = (
   λ is at seen h. other (known_in t) seen h s Deliver (known_in t).order h.order (inl refl) is v at c m,
   λ is at seen h. other (known_in t) seen h s State (known_in t).states h.states (inr refl) is v at c m,
 )
 
-pub tells_sent : (t : Table) (s : Said) → s.act ≡ Broadcast → (l : Place) → (known_in t).sent s.word ≡ Some l → Tells t t s None
-tells_sent t s is l at = λ seen h.
-    more (known_in t) seen h s (λ a. let no : Broadcast ≡ Deliver = sym is ∙ a in cc) (λ a. let no : Broadcast ≡ State = sym is ∙ a in cc)
-    (λ a. (l, at)) (λ n a. let no : Broadcast ≡ From n = sym is ∙ a in cc)
-
 pub tells_back : (t : Table) (s : Said) (count : ℕ) → s.act ≡ From count → (r : Option Clash) →
     MatchOption r (s.at ≤ count) (λ c. (c ≡ clash.Back) × (count < s.at)) → Tells t t s r
-tells_back t s count is None low = λ seen h.
-    more (known_in t) seen h s (λ a. let no : From count ≡ Deliver = sym is ∙ a in cc) (λ a. let no : From count ≡ State = sym is ∙ a in cc)
-    (λ a. let no : From count ≡ Broadcast = sym is ∙ a in cc)
-    (λ n a. let both : From count ≡ From n = sym is ∙ a in let same : count ≡ n = cc in subst (λ (m : ℕ). s.at ≤ m) same low)
+tells_back t s count is None low = tells_as t s (From count) is low
 tells_back t s count is (Some c) m = λ seen h. subst (λ (x : Clash). IsClash seen s x) (sym m.0) (count, is, m.1)
-
--- a line of which nothing is kept
-pub tells_none : (t : Table) (s : Said) (act : Act) → s.act ≡ act → (act ≡ Deliver → ⊥) → (act ≡ Broadcast → ⊥) → (act ≡ State → ⊥) →
-    ((n : ℕ) → act ≡ From n → ⊥) → Tells t t s None
-tells_none t s act is d b w f = λ seen h.
-    more (known_in t) seen h s (λ a. absurd (d (sym is ∙ a))) (λ a. absurd (w (sym is ∙ a))) (λ a. absurd (b (sym is ∙ a)))
-    (λ n a. absurd (f n (sym is ∙ a)))

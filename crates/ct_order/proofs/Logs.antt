@@ -1,14 +1,13 @@
 -- Logs read one after another.
-use Rattle.std.proofs.Common.{◌≡◌, ℕ, Bool, zero, suc, ◌+◌, List, [], ◌∷◌, ◌++◌, length, take, drop, Result, Ok, Err, Some, slice_get}
-use Rattle.std.proofs.Common.{refl, sym, ap, ◌∙◌, subst, arith}
+use Rattle.std.proofs.Common.{◌≡◌, ℕ, Bool, zero, suc, ◌+◌, List, [], ◌∷◌, ◌++◌, length, take, drop, Result, Ok, Err, Some, slice_get, refl}
+use Rattle.std.proofs.Common.{sym, ap, ◌∙◌, subst, arith}
 use Rattle.std.proofs.Common.{append_assoc}
 use Rattle.std.proofs.lemmas.List.{append-nil, take-append-drop}
 use Rattle.std.proofs.lemmas.Option.{none-some, same_Some}
 use Rattle.ct_order.specs.declared.act.Act.TheVariants.{Deliver}
 use Rattle.ct_order.specs.Ending.{AreAtomic, AreNoLogs, Contradict, LackBroadcast}
-use Rattle.ct_order.specs.Orders.{HasOrder, IsBroadcast}
+use Rattle.ct_order.specs.Orders.{HasOrder, IsBroadcast, IsIn, Said, said_at}
 use Rattle.ct_order.specs.Reading.{Logs, after_texts, then_logs}
-use Rattle.ct_order.specs.Said.{Said, IsIn, said_at}
 use Rattle.ct_order.specs.Scanning.{Fault, Scanned, after_bytes, beginning, go_on, joined}
 use Rattle.ct_order.proofs.Judging.{no_order}
 use Rattle.ct_order.proofs.Scanned.{after_append}
@@ -66,38 +65,38 @@ logs_push texts text l r e h = texts_push 0 texts text l r e (ap (λ n. after_by
 
 -- ---- what one of them says
 
-record Says (at : ℕ) (text : List ℕ) (before all : List Said) : Type 0 where
+record Says (log at : ℕ) (texts : List (List ℕ)) (text : List ℕ) (all : List Said) : Type 0 where
+  before : Logs
+  first : after_texts log (take at texts) ≡ Ok before
   read : Scanned
-  is : after_bytes at beginning text ≡ Ok read
+  is : after_bytes (log + at) beginning text ≡ Ok read
   rest : List Said
-  split : all ≡ before ++ (read.said ++ rest)
+  split : all ≡ before.said ++ (read.said ++ rest)
 
-says : (log : ℕ) (texts : List (List ℕ)) (i : ℕ) (text : List ℕ) (l b : Logs) → slice_get texts i ≡ Some text →
-    after_texts log texts ≡ Ok l →
-    after_texts log (take i texts) ≡ Ok b → Says (log + i) text b.said l.said
-says log [] i text l b at e f = absurd (none-some text at)
-says log (t ∷ ts) zero text l b at e f =
+says : (log : ℕ) (texts : List (List ℕ)) (i : ℕ) (text : List ℕ) (l : Logs) → slice_get texts i ≡ Some text →
+    after_texts log texts ≡ Ok l → Says log i texts text l.said
+says log [] i text l at e = absurd (none-some text at)
+says log (t ∷ ts) zero text l at e =
     let p = parts (after_bytes log beginning t) (after_texts (log + 1) ts) l e in
     record {
+      before = record { said = []; ends = [] };
+      first = refl;
       read = p.first;
       is = (λ j. after_bytes ((let m : log + 0 ≡ log = omega arith in m) j) beginning (sym (same_Some t text at) j)) ∙ p.is;
       rest = p.later.said;
-      split = ap (λ (k : Logs). k.said) p.all
-          ∙ ap (λ (k : Logs). k.said ++ (p.first.said ++ p.later.said)) (same_Ok (record { said = []; ends = [] }) b f);
+      split = ap (λ (k : Logs). k.said) p.all;
     }
-says log (t ∷ ts) (suc i) text l b at e f =
+says log (t ∷ ts) (suc i) text l at e =
     let p = parts (after_bytes log beginning t) (after_texts (log + 1) ts) l e in
-    let q = parts (after_bytes log beginning t) (after_texts (log + 1) (take i ts)) b f in
-    let s = says (log + 1) ts i text p.later q.later at p.others q.others in
-    let one : p.first ≡ q.first = same_Ok p.first q.first (sym p.is ∙ q.is) in
+    let s = says (log + 1) ts i text p.later at p.others in
     record {
+      before = record { said = p.first.said ++ s.before.said; ends = p.first.scan.standing ∷ s.before.ends };
+      first = λ j. then_logs (p.is j) (s.first j);
       read = s.read;
       is = ap (λ n. after_bytes n beginning text) (let m : log + suc i ≡ log + 1 + i = omega arith in m) ∙ s.is;
       rest = s.rest;
       split = ap (λ (k : Logs). k.said) p.all
-          ∙ ((λ j. (one j).said ++ s.split j)
-          ∙ (sym (append_assoc q.first.said q.later.said (s.read.said ++ s.rest))
-          ∙ ap (λ (k : Logs). k.said ++ (s.read.said ++ s.rest)) (sym q.all)));
+          ∙ (ap (λ x. p.first.said ++ x) s.split ∙ sym (append_assoc p.first.said s.before.said (s.read.said ++ s.rest)));
     }
 
 -- ---- what is told of logs that are wrong is not so of those of one atomic broadcast
@@ -105,23 +104,23 @@ says log (t ∷ ts) (suc i) text l b at e f =
 module _ (texts : List (List ℕ)) (a : AreAtomic texts) where
   pub no_contradiction : Contradict texts → ⊥
   no_contradiction c =
-      let s = says 0 texts c.at c.text (record { said = a.0; ends = a.1 }) (record { said = c.said; ends = c.ends }) c.there a.2 c.before in
-      let m = goes_on c.at (take c.count c.text) (drop c.count c.text)
-      (record { scan = c.scan; said = c.new ++ c.this ∷ [] }) s.read c.reads
-      (ap (after_bytes c.at beginning) (take-append-drop c.count c.text)
+      let s = says 0 texts c.at c.text (record { said = a.0; ends = a.1 }) c.there a.2 in
+      let same = same_Ok s.before (record { said = c.said; ends = c.ends }) (sym s.first ∙ c.before) in
+      let m = goes_on c.at (take c.count c.text) (drop c.count c.text) (record { scan = c.scan; said = c.new ++ c.this ∷ [] }) s.read
+      c.reads (ap (after_bytes c.at beginning) (take-append-drop c.count c.text)
       ∙ (ap (λ n. after_bytes n beginning c.text) (sym (zero_plus c.at)) ∙ s.is)) in
       no_order (c.said ++ c.new) (m.0 ++ s.rest) c.this c.clash c.clashes
       (subst HasOrder
-      (s.split ∙ (ap (λ n. c.said ++ (n ++ s.rest)) m.1
+      (s.split ∙ (ap (λ (b : Logs). b.said ++ (s.read.said ++ s.rest)) same ∙ (ap (λ n. c.said ++ (n ++ s.rest)) m.1
       ∙ (ap (λ n. c.said ++ n) (append_assoc (c.new ++ c.this ∷ []) m.0 s.rest ∙ append_assoc c.new (c.this ∷ []) (m.0 ++ s.rest))
-      ∙ sym (append_assoc c.said c.new (c.this ∷ (m.0 ++ s.rest)))))) a.3.0)
+      ∙ sym (append_assoc c.said c.new (c.this ∷ (m.0 ++ s.rest))))))) a.3.0)
     where
       goes_on : (log : ℕ) (xs ys : List ℕ) (x r : Scanned) → after_bytes log beginning xs ≡ Ok x →
           after_bytes log beginning (xs ++ ys) ≡ Ok r →
           (more : List Said) × (r.said ≡ x.said ++ more)
       goes_on log xs ys x r e f =
-          rest_of (after_bytes log x.scan ys) (ap (λ q. go_on q (λ t. after_bytes log t ys)) (sym e)
-          ∙ (sym (after_append log beginning xs ys) ∙ f))
+          rest_of (after_bytes log x.scan ys)
+          (ap (λ q. go_on q (λ t. after_bytes log t ys)) (sym e) ∙ (sym (after_append log beginning xs ys) ∙ f))
         where
           rest_of : (q : Result Scanned Fault) → joined x.said q ≡ Ok r → (more : List Said) × (r.said ≡ x.said ++ more)
           rest_of (Err u) h = absurd (err_ok u r h)
@@ -135,17 +134,6 @@ module _ (texts : List (List ℕ)) (a : AreAtomic texts) where
       (subst (λ s. IsIn (said_at l.delivery.place l.delivery.at Deliver l.unsent.word) s) (sym said) l.unsent.delivers) refl))
 
   pub are_logs : AreNoLogs texts → ⊥
-  are_logs n = unread 0 texts n.at (record { said = a.0; ends = a.1 }) n.there a.2
-      (ap (λ m. after_bytes m beginning n.text) (zero_plus n.at) ∙ n.reads)
-    where
-      unread : (log : ℕ) (ts : List (List ℕ)) (i : ℕ) (l : Logs) → slice_get ts i ≡ Some n.text → after_texts log ts ≡ Ok l →
-          after_bytes (log + i) beginning n.text ≡ Err n.fault → ⊥
-      unread log [] i l at e f = none-some n.text at
-      unread log (t ∷ ts) zero l at e f =
-          let p = parts (after_bytes log beginning t) (after_texts (log + 1) ts) l e in
-          err_ok n.fault p.first
-          (sym f ∙ ((λ j. after_bytes ((let m : log + 0 ≡ log = omega arith in m) j) beginning (sym (same_Some t n.text at) j)) ∙ p.is))
-      unread log (t ∷ ts) (suc i) l at e f =
-          let p = parts (after_bytes log beginning t) (after_texts (log + 1) ts) l e in
-          unread (log + 1) ts i p.later at p.others
-          (ap (λ m. after_bytes m beginning n.text) (let m : log + 1 + i ≡ log + suc i = omega arith in m) ∙ f)
+  are_logs n =
+      let s = says 0 texts n.at n.text (record { said = a.0; ends = a.1 }) n.there a.2 in
+      err_ok n.fault s.read (sym (ap (λ m. after_bytes m beginning n.text) (zero_plus n.at) ∙ n.reads) ∙ s.is)

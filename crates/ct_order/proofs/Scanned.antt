@@ -1,6 +1,6 @@
 -- Bytes read one after another.
-use Rattle.std.proofs.Common.{◌≡◌, ℕ, ◌+◌, ◌<◌, ◌≤◌, List, [], ◌∷◌, ◌++◌, length, take, drop, get_or, Result, Ok, Err, Some, None}
-use Rattle.std.proofs.Common.{suc, refl, sym, ap, ◌∙◌, subst, arith, append_assoc, length-append, if◌then◌else◌, nat_lt, lt-ltb, le-ltb}
+use Rattle.std.proofs.Common.{◌≡◌, ℕ, ◌+◌, ◌<◌, ◌≤◌, List, [], ◌∷◌, ◌++◌, length, take, drop, get_or, Result, Ok, Err, Some}
+use Rattle.std.proofs.Common.{suc, refl, sym, ap, ◌∙◌, subst, arith, append_assoc, length-append, if◌then◌else◌, nat_lt, le-ltb}
 use Rattle.std.proofs.Common.{Bool}
 use Rattle.std.proofs.lemmas.Bool.{ne_eqb}
 use Rattle.std.proofs.lemmas.List.{append-nil, take-append-drop, take-append-le, take_all, take_more}
@@ -8,7 +8,6 @@ use Rattle.ct_order.specs.declared.act.Act.{Act}
 use Rattle.ct_order.specs.declared.clash.Clash.{Clash}
 use Rattle.ct_order.specs.declared.limits.TheConstants.{MAX_LINE}
 use Rattle.ct_order.specs.declared.line.Line.{Line}
-use Rattle.ct_order.specs.declared.no_line.NoLine.{NoLine}
 use Rattle.ct_order.specs.declared.no_line.NoLine.TheVariants.{Long}
 use Rattle.ct_order.specs.declared.standing.Standing.{Standing}
 use Rattle.ct_order.specs.declared.stop.Stop.{Stop}
@@ -16,8 +15,7 @@ use Rattle.ct_order.specs.declared.stop.Stop.TheVariants as stop
 use Rattle.ct_order.specs.declared.table.Table.{Table}
 use Rattle.ct_order.specs.Knowing.{KnowsTable, Tells, is_said}
 use Rattle.ct_order.specs.Lines.{after_act}
-use Rattle.ct_order.specs.Orders.{IsClash}
-use Rattle.ct_order.specs.Said.{Said}
+use Rattle.ct_order.specs.Orders.{IsClash, Said}
 use Rattle.ct_order.specs.Scanning.{Fault, Scanned, Scanning, after_byte, after_bytes, after_line, go_on, joined, said_by}
 use Rattle.ct_order.specs.Taking.{IsConflictOf, IsUnreadOf, MovesLine, Stops, Takes, fault_of, said_in, said_of}
 
@@ -128,10 +126,6 @@ stops_rest log s old xs ys stop.Memory e = tt
 
 -- ---- bytes in a loop
 
-pub takes_zero : (log : ℕ) (s : Scanning) (old : Table) (bytes : List ℕ) → Takes log s old (take 0 bytes) s old
-takes_zero log s old [] = takes_none log s old
-takes_zero log s old (b ∷ bs) = takes_none log s old
-
 module _ (log : ℕ) (s : Scanning) (old : Table) (bytes : List ℕ) (i : ℕ) (t : Scanning) (mid : Table)
     (a : Takes log s old (take i bytes) t mid) where
   pub takes_next : (u : Scanning) (new : Table) → i < length bytes → Takes log t mid (get_or bytes i 0 ∷ []) u new →
@@ -164,16 +158,6 @@ unfolding over
 other_byte log s b ne =
     ap (λ c. if c then after_line log s.standing s.pending else over s b (nat_lt (length s.pending) MAX_LINE)) (ne_eqb b 10 ne)
 
-pub pushed : (log : ℕ) (s : Scanning) (old : Table) (b : ℕ) (t : Scanning) → (b ≡ 10 → ⊥) → length s.pending < MAX_LINE →
-    t ≡ record s { pending = s.pending ++ b ∷ [] } → Takes log s old (b ∷ []) t old
-unfolding over
-pushed log s old b t ne short is = record {
-  said = [];
-  is = one_byte log s b t [] (other_byte log s b ne ∙ (ap (over s b) (lt-ltb (length s.pending) MAX_LINE short)
-      ∙ ap (λ (u : Scanning). joined [] (Ok (record { scan = u; said = [] }))) (sym is)));
-  learns = knows_none old;
-}
-
 pub too_long : (log : ℕ) (s : Scanning) (old : Table) (b : ℕ) → (b ≡ 10 → ⊥) → MAX_LINE ≤ length s.pending → (why : Stop) →
     IsUnreadOf (s.standing.count + 1) Long why → Stops log s old (b ∷ []) why
 unfolding over
@@ -184,52 +168,12 @@ too_long log s old b ne long (stop.Line u) h =
 too_long log s old b ne long stop.Memory h = tt
 too_long log s old b ne long why h = absurd h
 
--- ---- a line feed
-
-pub line_takes : (log : ℕ) (s : Scanning) (old : Table) (t : Standing) (new : Table) →
-    MovesLine (after_line log s.standing s.pending) old t new (Ok tt) →
-    Takes log s old (10 ∷ []) (record { standing = t; pending = [] }) new
-line_takes log s old t new a = record {
-  said = a.said;
-  is = one_byte log s 10 (record { standing = t; pending = [] }) a.said a.is;
-  learns = a.learns;
-}
-
-pub line_stops : (log : ℕ) (s : Scanning) (old : Table) (t : Standing) (new : Table) (why : Stop) →
-    MovesLine (after_line log s.standing s.pending) old t new (Err why) → Stops log s old (10 ∷ []) why
-line_stops log s old t new (stop.Line u) e = one_fault log s 10 (fault_of u) e
-line_stops log s old t new (stop.Clash c) e = record {
-  count = 1;
-  within = omega arith;
-  conflict = record { said = e.said; scan = e.scan; is = one_byte log s 10 e.scan (e.said ++ said_of c ∷ []) e.is; clashes = e.clashes };
-}
-line_stops log s old t new stop.Lines e = tt
-line_stops log s old t new (stop.File place why) e = tt
-line_stops log s old t new stop.Memory e = tt
-
 -- ---- what a line says
 
 module _ (log : ℕ) (s : Standing) (old : Table) (act : Act) (word : List ℕ) where
-  pub said_takes : (line : Line) → is_said line ≡ record { log = log; line = s.count; at = s.at; act = act; word = word } →
-      (t : Standing) (new : Table) →
-      after_act s act ≡ Ok t → Tells old new (is_said line) None → MovesLine (said_in log s act word) old t new (Ok tt)
-  said_takes line same t new e tells = record {
-    said = is_said line ∷ [];
-    is = ap (said_by log s (record { act = act; word = word })) e
-        ∙ (λ i. Ok (record { scan = record { standing = t; pending = [] }; said = sym same i ∷ [] }));
-    learns = tells;
-  }
-
-  pub said_fault : (why : NoLine) → after_act s act ≡ Err why → (t : Standing) (new : Table) (r : Stop) → IsUnreadOf s.count why r →
-      MovesLine (said_in log s act word) old t new (Err r)
-  said_fault why e t new (stop.Line u) h =
-      ap (said_by log s (record { act = act; word = word })) e ∙ (λ i. Err (record { line = sym h.0 i; why = sym h.1 i }))
-  said_fault why e t new stop.Memory h = tt
-  said_fault why e t new r h = absurd h
-
   pub said_clash : (line : Line) → is_said line ≡ record { log = log; line = s.count; at = s.at; act = act; word = word } →
-      (t : Standing) (new : Table)
-      (clash : Clash) → after_act s act ≡ Ok t → Tells old new (is_said line) (Some clash) → (u : Standing) (why : Stop) →
+      (t : Standing) (new : Table) (clash : Clash) → after_act s act ≡ Ok t →
+      Tells old new (is_said line) (Some clash) → (u : Standing) (why : Stop) →
       IsConflictOf line clash why → MovesLine (said_in log s act word) old u new (Err why)
   said_clash line same t new clash e tells u (stop.Clash c) is = record {
     said = [];

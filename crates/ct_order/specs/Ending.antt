@@ -8,11 +8,9 @@ use Rattle.ct_order.specs.declared.place.Delivery.{Delivery}
 use Rattle.ct_order.specs.declared.standing.Standing.{Standing}
 use Rattle.ct_order.specs.declared.wrong.Wrong.{Wrong}
 use Rattle.ct_order.specs.declared.wrong.Wrong.TheVariants.{NoLog, Refused, Incomplete, Unsettled, Overtaken}
-use Rattle.ct_order.specs.Orders.{HasOrder, IsAtomic, IsClash}
-use Rattle.ct_order.specs.Reading.{HasSaid}
-use Rattle.ct_order.specs.Said.{Said}
+use Rattle.ct_order.specs.Orders.{HasOrder, IsAtomic, IsClash, IsUnsent, Said}
+use Rattle.ct_order.specs.Reading.{HasSaid, are_whole}
 use Rattle.ct_order.specs.Scanning.{Fault, Scanning, after_bytes, beginning}
-use Rattle.ct_order.specs.Verdicts.{IsUnsent, are_whole}
 
 -- their lines are those of one atomic broadcast
 abbrev pub AreAtomic : List (List ℕ) → Type 0

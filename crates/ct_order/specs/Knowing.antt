@@ -1,6 +1,7 @@
 -- What is kept of lines.
-use Rattle.std.specs.Prelude.{◌≡◌, ◌≢◌, ℕ, ◌≤◌, List, [], ◌∷◌, ◌++◌, Option, Some, None, nat_eq, string_bytes}
+use Rattle.std.specs.Prelude.{◌≡◌, ◌≢◌, ℕ, ◌≤◌, List, [], ◌∷◌, ◌++◌, Option, Some, None, is_some, true, nat_eq, string_bytes}
 use Rattle.std.specs.HashMap.{get, get_by_text}
+use Rattle.std.specs.List.{list_all}
 use Rattle.ct_order.specs.declared.act.Act.{Act}
 use Rattle.ct_order.specs.declared.act.Act.TheVariants.{Broadcast, Deliver, State, From}
 use Rattle.ct_order.specs.declared.clash.Clash.{Clash}
@@ -10,8 +11,7 @@ use Rattle.ct_order.specs.declared.place.Delivery.{Delivery}
 use Rattle.ct_order.specs.declared.place.Place.{Place}
 use Rattle.ct_order.specs.declared.table.Table.{Table}
 use Rattle.ct_order.specs.declared.told.Told.{Told}
-use Rattle.ct_order.specs.Orders.{IsClash}
-use Rattle.ct_order.specs.Said.{Said, IsIn, said_at}
+use Rattle.ct_order.specs.Orders.{IsClash, IsIn, Said, said_at}
 
 -- the line as it is said
 abbrev pub is_said : Line → Said
@@ -66,3 +66,14 @@ Tells old new said (Some clash) = (seen : List Said) → KnowsTable old seen →
 abbrev pub IsOther : Told → List ℕ → Clash → Type 0
 IsOther v x (Other told) = (told.place ≡ v.place) × (string_bytes told.word ≡ string_bytes v.word) × (string_bytes v.word ≢ x)
 IsOther v x _ = ⊥
+
+-- ---- what is broadcast
+
+-- each message at a position was
+abbrev pub AreSent : Table → Type 0
+AreSent t = list_all (λ e. is_some (get_by_text t.sent (string_bytes e.1.word))) t.order.entries ≡ true
+
+-- the message that this line delivers was not
+abbrev pub IsUnsentAt : Table → Delivery → Type 0
+IsUnsentAt t d =
+    (v : Told) × (get nat_eq t.order d.at ≡ Some v) × (v.place ≡ d.place) × (get_by_text t.sent (string_bytes v.word) ≡ None)

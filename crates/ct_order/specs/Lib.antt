@@ -1,4 +1,3 @@
-pub mod Said
 pub mod Orders
 pub mod Knowing
 pub mod Lines
@@ -6,7 +5,5 @@ pub mod Json
 pub mod Scanning
 pub mod Taking
 pub mod Reading
-pub mod Verdicts
-pub mod Faults
 pub mod Ending
-pub mod Line
+pub mod Command

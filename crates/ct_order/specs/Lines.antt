@@ -1,6 +1,6 @@
 -- What lines of logs say.
 use Rattle.std.specs.Prelude.{ℕ, ◌+◌, ◌-◌, ◌==◌, ◌&&◌, Bool, true, false, not, nat_lt, nat_le, List, [], ◌∷◌, codes, length, take, drop}
-use Rattle.std.specs.Prelude.{Option, Some, None, Result, Ok, Err, if◌then◌else◌, option_and_then, position, unwrap_or}
+use Rattle.std.specs.Prelude.{Option, Some, None, Result, Ok, Err, if◌then◌else◌, option_and_then, position}
 use Rattle.std.specs.Char.{is_ascii_whitespace}
 use Rattle.std.specs.List.{list_all, prefix_len, suffix_len}
 use Rattle.std.specs.Str.{bytes_eq, is_utf8}
@@ -91,14 +91,14 @@ abbrev pub is_blank : List ℕ → Bool
 is_blank [] = true
 is_blank (c ∷ cs) = c == 35
 
--- where the first word ends
-abbrev pub blank_end : List ℕ → ℕ
-blank_end text = unwrap_or (position is_ascii_whitespace text) (length text)
+-- of words that end there
+abbrev pub event_up_to : Option ℕ → List ℕ → Result (Option Entry) NoLine
+event_up_to None text = event_named text []
+event_up_to (Some end) text = event_named (take end text) (trimmed (drop end text))
 
 -- what a line says, without blanks at its ends
 abbrev pub plain_event : List ℕ → Result (Option Entry) NoLine
-plain_event text =
-    if is_blank text then Ok None else event_named (take (blank_end text) text) (trimmed (drop (blank_end text) text))
+plain_event text = if is_blank text then Ok None else event_up_to (position is_ascii_whitespace text) text
 
 -- ---- what may follow what
 

@@ -1,10 +1,34 @@
--- When lines of logs are those of one atomic broadcast, and when a line contradicts others.
-use Rattle.std.specs.Prelude.{◌≡◌, ◌≢◌, ℕ, ◌<◌, ◌≤◌, ◌⊎◌, List, Option, Some, string_bytes}
+-- What lines of logs say, when they are those of one atomic broadcast, and when a line contradicts others.
+use Rattle.std.specs.Prelude.{◌≡◌, ◌≢◌, ℕ, ◌<◌, ◌≤◌, ◌⊎◌, List, [], ◌∷◌, Option, Some, string_bytes}
 use Rattle.ct_order.specs.declared.act.Act.{Act}
 use Rattle.ct_order.specs.declared.act.Act.TheVariants.{Broadcast, Deliver, State, From}
 use Rattle.ct_order.specs.declared.clash.Clash.{Clash}
 use Rattle.ct_order.specs.declared.clash.Clash.TheVariants.{Other, Again, Back}
-use Rattle.ct_order.specs.Said.{Said, IsIn, said_at}
+use Rattle.ct_order.specs.declared.place.Delivery.{Delivery}
+use Rattle.ct_order.specs.declared.place.Place.{Place}
+
+-- a line: the place of its log among the logs, from 0; its number there, from 1; how many deliveries its process has before it; what
+-- it says that the process did; and its word, of a message or of a state
+pub record Said : Type 0 where
+  pub log : ℕ
+  pub line : ℕ
+  pub at : ℕ
+  pub act : Act
+  pub word : List ℕ
+
+-- it is one of these
+abbrev pub IsIn : Said → List Said → Type 0
+IsIn s [] = ⊥
+IsIn s (t ∷ ts) = (s ≡ t) ⊎ IsIn s ts
+
+-- the line at this place that says so
+abbrev pub said_at : Place → ℕ → Act → List ℕ → Said
+said_at place at act word = record { log = place.log; line = place.line; at = at; act = act; word = word }
+
+abbrev pub place_of : Said → Place
+place_of s = record { log = s.log; line = s.line }
+
+-- ---- orders
 
 -- an order of messages, as far as one is known at each position, counted from 0; and the state behind so many deliveries. Each line
 -- delivers the message of its position and tells of the state there, no message stands at two positions, and a snapshot that is taken
@@ -26,6 +50,12 @@ IsBroadcast said x = (s : Said) × IsIn s said × (s.act ≡ Broadcast) × (s.wo
 -- each message that is delivered was broadcast
 abbrev pub AreBroadcast : List Said → Type 0
 AreBroadcast said = (s : Said) → IsIn s said → s.act ≡ Deliver → IsBroadcast said s.word
+
+-- a line of this place delivers a message that none broadcasts
+pub record IsUnsent (said : List Said) (d : Delivery) : Type 0 where
+  pub word : List ℕ
+  pub delivers : IsIn (said_at d.place d.at Deliver word) said
+  pub unsent : IsBroadcast said word → ⊥
 
 -- the lines are those of one atomic broadcast
 abbrev pub IsAtomic : List Said → Type 0

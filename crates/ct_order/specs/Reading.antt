@@ -1,5 +1,5 @@
 -- Files are read as logs.
-use Rattle.std.specs.Prelude.{◌≡◌, ℕ, ◌+◌, List, [], ◌∷◌, ◌++◌, Option, Some, Result, Ok, Err, ⊤, map, slice_get, take}
+use Rattle.std.specs.Prelude.{◌≡◌, ℕ, ◌+◌, List, [], ◌∷◌, ◌++◌, Option, Some, Result, Ok, Err, ⊤, map, slice_get, take, Bool, true, ◌&&◌}
 use Rattle.ct_order.specs.declared.reading.Judged.{Judged}
 use Rattle.ct_order.specs.declared.reading.LogEnd.{LogEnd}
 use Rattle.ct_order.specs.declared.standing.Standing.{Standing}
@@ -7,7 +7,7 @@ use Rattle.ct_order.specs.declared.stop.Stop.{Stop}
 use Rattle.ct_order.specs.declared.stop.Stop.TheVariants as stop
 use Rattle.ct_order.specs.declared.table.Table.{Table}
 use Rattle.ct_order.specs.Knowing.{KnowsTable}
-use Rattle.ct_order.specs.Said.{Said}
+use Rattle.ct_order.specs.Orders.{Said}
 use Rattle.ct_order.specs.Scanning.{Fault, Scanned, Scanning, after_bytes, beginning}
 use Rattle.ct_order.specs.Taking.{Stops, Takes}
 
@@ -38,6 +38,11 @@ HasSaid texts said ends = after_texts 0 texts ≡ Ok (record { said = said; ends
 
 abbrev pub standings_of : List LogEnd → List Standing
 standings_of ends = map (λ (end : LogEnd). end.standing) ends
+
+-- each log says that it is whole
+abbrev pub are_whole : List Standing → Bool
+are_whole [] = true
+are_whole (s ∷ ss) = s.is_whole && are_whole ss
 
 -- all that the texts say is known
 pub record IsReadFrom (texts : List (List ℕ)) (ends : List Standing) (t : Table) : Type 0 where

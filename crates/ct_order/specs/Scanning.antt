@@ -6,7 +6,7 @@ use Rattle.ct_order.specs.declared.no_line.NoLine.TheVariants.{Long}
 use Rattle.ct_order.specs.declared.standing.Standing.{Standing}
 use Rattle.ct_order.specs.Json.{event_in}
 use Rattle.ct_order.specs.Lines.{Entry, after_act, start}
-use Rattle.ct_order.specs.Said.{Said}
+use Rattle.ct_order.specs.Orders.{Said}
 
 -- a log behind some first bytes: where it stands, and the bytes of a line that no line feed ends yet
 pub record Scanning : Type 0 where

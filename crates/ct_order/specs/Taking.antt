@@ -12,8 +12,7 @@ use Rattle.ct_order.specs.declared.stop.Unread.{Unread}
 use Rattle.ct_order.specs.declared.table.Table.{Table}
 use Rattle.ct_order.specs.Knowing.{KnowsTable, is_said}
 use Rattle.ct_order.specs.Lines.{after_act}
-use Rattle.ct_order.specs.Orders.{IsClash}
-use Rattle.ct_order.specs.Said.{Said, said_at}
+use Rattle.ct_order.specs.Orders.{IsClash, Said, said_at}
 use Rattle.ct_order.specs.Scanning.{Fault, Scanned, Scanning, after_bytes, said_by}
 
 -- what was read says this, and the table comes to know it, too

@@ -37,8 +37,8 @@ impl fmt::Display for NoLine {
                 "an object with one of broadcast, deliver, state, from, restart, crash and end",
             NoLine::Whole => "nothing stands behind end",
             NoLine::Crashed => "restart N or end stands behind crash",
-            NoLine::Long => "a line has at most 65536 bytes",
-            NoLine::Full => "a process delivers at most 4294967295 messages",
+            NoLine::Long => "a line of at most 65536 bytes",
+            NoLine::Full => "at most 4294967295 deliveries of a process",
         })
     }
 }

@@ -1,17 +1,11 @@
 //! Why logs are not accepted.
 
-ghost use Rattle.ct_order.specs.Faults.{status_of};
+ghost use Rattle.ct_order.specs.Command.{status_of};
 
 use crate::wrong::Wrong;
 use ct_streams::{Fault, FileFault, Status};
 use std::alloc::AllocError;
 use thiserror::Error;
-
-// The status where a log would have to go on.
-const INCOMPLETE: u8 = 6;
-
-// The status where a limit is in the way.
-const LIMIT: u8 = 8;
 
 /// Why logs are not accepted. Its text is the line for standard error.
 #[derive(Debug, Drop, Error)]
@@ -52,10 +46,10 @@ impl Fault for OrderFault {
         match self {
             OrderFault::Wrong { wrong, .. } => match wrong {
                 Wrong::NoLog => Status::NoRecord.code(),
-                Wrong::Incomplete => INCOMPLETE,
+                Wrong::Incomplete => 6,
                 Wrong::Refused | Wrong::Unsettled | Wrong::Overtaken => Status::Refused.code(),
             },
-            OrderFault::Limit(_) => LIMIT,
+            OrderFault::Limit(_) => 8,
             OrderFault::Twice => Status::Words.code(),
             OrderFault::File { .. } | OrderFault::Write => Status::Stream.code(),
             OrderFault::Memory => Status::Memory.code(),

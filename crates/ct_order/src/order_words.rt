@@ -2,7 +2,7 @@
 
 ghost use Rattle.std.specs.Prelude.{◌≡◌, IfOk};
 ghost use Rattle.clap.specs.Words.{app_of, found_of, rows_of};
-ghost use Rattle.ct_order.specs.Line.{asked_in, order_app};
+ghost use Rattle.ct_order.specs.Command.{asked_in, order_app};
 
 use crate::running::Asked;
 use clap::{ArgMatches, Command};

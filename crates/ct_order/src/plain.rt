@@ -1,10 +1,10 @@
 //! From the bytes of a line to what it says.
 
-ghost use Rattle.std.specs.Prelude.{◌≡◌, ◌<◌, ◌≤◌, IfSome, drop, length, option_map, position, take};
+ghost use Rattle.std.specs.Prelude.{◌≡◌, ◌<◌, IfSome, length, option_map, position};
 ghost use Rattle.std.specs.Char.{is_ascii_whitespace};
 ghost use Rattle.std.specs.List.{list_all};
 ghost use Rattle.std.specs.Str.{bytes_eq};
-ghost use Rattle.ct_order.specs.Lines.{alone, blank_end, count_in, entry_of, event_named, is_blank, plain_event, is_plain, is_word};
+ghost use Rattle.ct_order.specs.Lines.{alone, count_in, entry_of, event_named, is_blank, plain_event, is_plain, is_word};
 ghost use Rattle.ct_order.specs.Lines.{text_in, trimmed, with_count, with_word, word_in};
 
 use crate::act::Act;
@@ -27,22 +27,10 @@ pub(crate) fn plain_event(text: &[u8]) -> Event<'_>
     if is_blank(text) {
         return Event::Blank;
     }
-    let end = blank_end(text);
-    event_named(first(text, end), trimmed(rest(text, end)))
-}
-
-fn first(text: &[u8], end: usize) -> &[u8]
-    requires { end ≤ length text.now }
-    ensures { result.now ≡ take end text.now }
-{
-    &text[..end]
-}
-
-fn rest(text: &[u8], end: usize) -> &[u8]
-    requires { end ≤ length text.now }
-    ensures { result.now ≡ drop end text.now }
-{
-    &text[end..]
+    match first_blank(text) {
+        Some(end) => event_named(&text[..end], trimmed(&text[end..])),
+        None => event_named(text, &[]),
+    }
 }
 
 // Whether nothing stands there, or a comment.
@@ -52,17 +40,6 @@ fn is_blank(text: &[u8]) -> bool
     match text {
         [] => true,
         [first, ..] => *first == b'#',
-    }
-}
-
-// Where the first word ends.
-fn blank_end(text: &[u8]) -> usize
-    ensures value { result ≡ blank_end text.now }
-    ensures within { result ≤ length text.now }
-{
-    match first_blank(text) {
-        Some(end) => end,
-        None => text.len(),
     }
 }
 
@@ -164,20 +141,15 @@ fn is_word(bytes: &[u8]) -> bool
     !bytes.is_empty() && bytes.len() <= MAX_WORD && are_plain(bytes)
 }
 
+// Whether none is a blank or a control byte.
 fn are_plain(bytes: &[u8]) -> bool
     ensures { result ≡ list_all is_plain bytes.now }
 {
-    bytes.iter().all(|byte| is_plain(*byte))
-}
-
-// Whether it is no blank and no control byte.
-fn is_plain(byte: u8) -> bool
-    ensures { result ≡ is_plain byte }
-{
-    byte > 32 && byte != 127
+    bytes.iter().all(|byte| *byte > 32 && *byte != 127)
 }
 
 /// The text that these bytes are; None where they are no UTF-8.
+#[tactic(auto, using(crate::proofs::Worded::is_text, crate::proofs::Worded::no_text))]
 pub(crate) fn text_in(bytes: &[u8]) -> Option<&str>
     ensures { option_map (λ text. text.now) result ≡ text_in bytes.now }
 {

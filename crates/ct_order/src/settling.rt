@@ -5,6 +5,7 @@ use crate::place::Place;
 use crate::reading::{Judged, LogEnd};
 use crate::report::{Report, act_text, push_place};
 use crate::table::Table;
+use crate::telling::furthest;
 use std::alloc::{AllocError, Global};
 
 /// A message that a process broadcast.
@@ -21,7 +22,7 @@ pub(crate) fn lacking(
     names: &[&str],
     judged: &Judged,
 ) -> Result<Option<Report>, AllocError> {
-    let far = furthest_up(&judged.ends);
+    let far = furthest(&judged.ends, true);
     let mut log = 0u32;
     for end in &judged.ends {
         if !end.standing.is_down && end.standing.at < far {
@@ -30,17 +31,6 @@ pub(crate) fn lacking(
         log = log.saturating_add(1);
     }
     undelivered(alloc, judged, far)
-}
-
-// How many deliveries the furthest process has that did not crash.
-fn furthest_up(ends: &[LogEnd]) -> u64 {
-    let mut most = 0u64;
-    for end in ends {
-        if !end.standing.is_down {
-            most = most.max(end.standing.at);
-        }
-    }
-    most
 }
 
 // The log ends before a message that another process delivered.
@@ -75,11 +65,9 @@ fn undelivered(alloc: Global, judged: &Judged, far: u64) -> Result<Option<Report
         return Ok(None);
     }
     for next in &sent_in(alloc, &judged.table)? {
-        let is_missing = match next.at {
-            Some(at) => at >= far,
-            None => true,
-        };
-        if is_missing && is_up(&judged.ends, next.place.log) {
+        let is_missing = !matches!(next.at, Some(at) if at < far);
+        let end = judged.ends.get(next.place.log as usize);
+        if is_missing && end.is_some_and(|end| !end.standing.is_down) {
             return Ok(Some(Report {
                 place: next.place,
                 text: String::new(alloc),
@@ -89,13 +77,6 @@ fn undelivered(alloc: Global, judged: &Judged, far: u64) -> Result<Option<Report
         }
     }
     Ok(None)
-}
-
-fn is_up(ends: &[LogEnd], log: u32) -> bool {
-    match ends.get(log as usize) {
-        Some(end) => !end.standing.is_down,
-        None => false,
-    }
 }
 
 // The first position of which no message is told.
@@ -114,10 +95,7 @@ fn first_gap(table: &Table) -> u64 {
 fn sent_in(alloc: Global, table: &Table) -> Result<Vec<Sent>, AllocError> {
     let mut sent = Vec::new(alloc);
     for (word, place) in &table.sent {
-        let at = match table.placed.get(word.as_str()) {
-            Some(delivery) => Some(delivery.at),
-            None => None,
-        };
+        let at = table.placed.get(word.as_str()).map(|delivery| delivery.at);
         sent.push(Sent { place: *place, at })?;
     }
     sent.sort_unstable();
@@ -133,8 +111,8 @@ pub(crate) fn overtaking(
     let gap = first_gap(&judged.table);
     let mut log = u32::MAX;
     // The last one before it that is delivered, and the first that is not.
-    let mut last = None;
-    let mut lost = None;
+    let mut last: Option<Sent> = None;
+    let mut lost: Option<Sent> = None;
     for next in &sent_in(alloc, &judged.table)? {
         if next.place.log != log {
             log = next.place.log;
@@ -145,22 +123,17 @@ pub(crate) fn overtaking(
             lost = lost.or(Some(*next));
             continue;
         };
-        if let Some(before) = overtaken(at, last, lost, gap) {
+        let before = match last {
+            Some(last) if last.at > Some(at) => Some(last),
+            _ if at <= gap => lost,
+            _ => None,
+        };
+        if let Some(before) = before {
             return overtaking_report(alloc, names, judged, at, before.place);
         }
         last = Some(*next);
     }
     Ok(None)
-}
-
-// Which of these two messages of the same process, which it broadcast before, is overtaken by the delivery behind so many.
-fn overtaken(at: u64, last: Option<Sent>, lost: Option<Sent>, gap: u64) -> Option<Sent> {
-    if let Some(before) = last {
-        if before.at > Some(at) {
-            return Some(before);
-        }
-    }
-    if at <= gap { lost } else { None }
 }
 
 fn overtaking_report(

@@ -2,8 +2,7 @@
 
 ghost use Rattle.std.specs.Prelude.{◌≡◌, ◌<◌, ◌≤◌, [], IfOk, MatchOption, None, nat_eq};
 ghost use Rattle.std.specs.HashMap.{get};
-ghost use Rattle.ct_order.specs.Knowing.{KnowsTable, Tells, is_said};
-ghost use Rattle.ct_order.specs.Verdicts.{AreSent, IsUnsentAt};
+ghost use Rattle.ct_order.specs.Knowing.{AreSent, IsUnsentAt, KnowsTable, Tells, is_said};
 
 use crate::act::Act;
 use crate::clash::Clash;

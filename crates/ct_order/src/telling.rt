@@ -15,22 +15,20 @@ pub(crate) fn conflict_report(
     conflict: &Conflict,
 ) -> Result<Report, AllocError> {
     let mut why = String::new(alloc);
-    let position = conflict.at.saturating_add(1);
+    let verb = if matches!(conflict.act, Act::Deliver) {
+        write!(why, "position {}: ", conflict.at.saturating_add(1))?;
+        "delivered"
+    } else {
+        write!(why, "behind {} deliveries: ", conflict.at)?;
+        "has"
+    };
     let other = match &conflict.clash {
         Clash::Other(told) => {
-            if matches!(conflict.act, Act::Deliver) {
-                write!(why, "position {position}: ")?;
-                push_place(&mut why, names, told.place)?;
-                write!(why, " delivered {}", told.word.as_str())?;
-            } else {
-                write!(why, "behind {} deliveries: ", conflict.at)?;
-                push_place(&mut why, names, told.place)?;
-                write!(why, " has {}", told.word.as_str())?;
-            }
+            push_place(&mut why, names, told.place)?;
+            write!(why, " {verb} {}", told.word.as_str())?;
             Some(told.place)
         }
         Clash::Again(delivery) => {
-            write!(why, "position {position}: ")?;
             push_place(&mut why, names, delivery.place)?;
             write!(
                 why,
@@ -40,7 +38,7 @@ pub(crate) fn conflict_report(
             Some(delivery.place)
         }
         Clash::Back => {
-            write!(why, "{} deliveries stand before it", conflict.at)?;
+            why.push_str("a snapshot has no fewer")?;
             None
         }
     };
@@ -90,11 +88,13 @@ pub(crate) fn unsent_report(
     })
 }
 
-// How many deliveries the furthest process has.
-fn furthest(ends: &[LogEnd]) -> u64 {
+// How many deliveries the furthest process has, or the furthest that did not crash.
+pub(crate) fn furthest(ends: &[LogEnd], is_up: bool) -> u64 {
     let mut most = 0u64;
     for end in ends {
-        most = most.max(end.standing.at);
+        if !is_up || !end.standing.is_down {
+            most = most.max(end.standing.at);
+        }
     }
     most
 }
@@ -107,7 +107,7 @@ pub(crate) fn accepted_text(
 ) -> Result<String, AllocError> {
     let mut text = String::new(alloc);
     let mut notes = String::new(alloc);
-    let most = furthest(&judged.ends);
+    let most = furthest(&judged.ends, false);
     let logs = if names.len() == 1 { "log" } else { "logs" };
     let deliveries = if most == 1 { "delivery" } else { "deliveries" };
     write!(
@@ -145,7 +145,7 @@ pub(crate) fn accepted_json(
     judged: &Judged,
 ) -> Result<String, AllocError> {
     let mut text = String::new(alloc);
-    let most = furthest(&judged.ends);
+    let most = furthest(&judged.ends, false);
     write!(
         text,
         "{{\"verdict\":\"accepted\",\"deliveries\":{most},\"logs\":["
@@ -157,18 +157,14 @@ pub(crate) fn accepted_json(
         }
         text.push_str("{\"file\":")?;
         push_json(&mut text, name_of(names, log))?;
-        push_json_end(&mut text, *end)?;
+        let LogEnd { standing, is_torn } = *end;
+        write!(
+            text,
+            ",\"lines\":{},\"deliveries\":{},\"crashed\":{},\"whole\":{},\"torn\":{}}}",
+            standing.count, standing.at, standing.is_down, standing.is_whole, is_torn
+        )?;
         log = log.saturating_add(1);
     }
     text.push_str("]}\n")?;
     Ok(text)
-}
-
-fn push_json_end(text: &mut String, end: LogEnd) -> Result<(), AllocError> {
-    let standing = end.standing;
-    write!(
-        text,
-        ",\"lines\":{},\"deliveries\":{},\"crashed\":{},\"whole\":{},\"torn\":{}}}",
-        standing.count, standing.at, standing.is_down, standing.is_whole, end.is_torn
-    )
 }

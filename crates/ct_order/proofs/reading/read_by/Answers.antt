@@ -1,6 +1,7 @@
 use Rattle.std.proofs.Common.{◌∙◌, ◌+◌, ◌≤◌, ap, subst, sym, take}
+use Rattle.std.proofs.lemmas.List.{take_all}
 use Rattle.ct_order.specs.Reading.{IsReadFrom, standings_of}
-use Rattle.ct_order.proofs.Files.{as_many, file_halts, file_more, files_all}
+use Rattle.ct_order.proofs.Files.{as_many, file_halts, file_more}
 use Rattle.ct_order.proofs.reading.read_by.Goals as goal
 
 pub returns-in-Err : goal.returns-in-Err
@@ -22,8 +23,7 @@ loop-name-preserved g c = record {
 
 pub returns : goal.returns
 returns g c = λ texts are.
-    files_all texts c.loop-name.name-index (standings_of c.loop-name.ends.items) c.loop-name.table
-    (subst (λ n. n ≤ c.loop-name.name-index) (sym (as_many (g.F.Files.bytes c.args.files.now)
-    (λ name. name.now) c.args.names.now texts are))
-    c.loop-name-test.false)
+    let few = sym (as_many (g.F.Files.bytes c.args.files.now) (λ name. name.now) c.args.names.now texts are) in
+    subst (λ l. IsReadFrom l (standings_of c.loop-name.ends.items) c.loop-name.table)
+    (take_all c.loop-name.name-index texts (subst (λ n. n ≤ c.loop-name.name-index) few c.loop-name-test.false))
     (c.loop-name.invariant.read texts are)

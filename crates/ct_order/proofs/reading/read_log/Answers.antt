@@ -6,8 +6,8 @@ use Rattle.ct_order.proofs.reading.read_log.Goals as goal
 pub loop-turn-init : goal.loop-turn-init
 loop-turn-init g c = record {
   same = refl;
-  read = λ text is. subst (λ (s : Scanning). IsReadOn c.args.log c.args.table.now text
-      (g.R.Source.left c.args.reader.now) s c.args.table.now)
+  read = λ text is.
+      subst (λ (s : Scanning). IsReadOn c.args.log c.args.table.now text (g.R.Source.left c.args.reader.now) s c.args.table.now)
       (sym c.new-scan.ensures) (reads_none c.args.log c.args.table.now text (g.R.Source.left c.args.reader.now) is);
 }
 

@@ -12,8 +12,8 @@ returns-in-None c = λ texts i.
 
 pub returns-in-Some : goal.returns-in-Some
 returns-in-Some c = λ texts i.
+    let whole = c.are_whole.ensures
+    ∙ (ap (list_all (λ (end : LogEnd). end.standing.is_whole)) c.deref.ensures.value ∙ whole_is c.args.judged.ends.items) in
     let l = lacks texts (standings_of c.args.judged.ends.items) c.args.judged.table i c.in-Some.delivery c.in-Some.ensures
-    c.are_whole.result
-    (c.are_whole.ensures ∙ (ap (list_all (λ (end : LogEnd). end.standing.is_whole)) c.deref.ensures.value
-    ∙ whole_is c.args.judged.ends.items)) in
+    c.are_whole.result whole in
     c.wrong.ensures texts (c.lack-which.ensures texts l (λ a. no_lack texts a c.are_whole.result l))

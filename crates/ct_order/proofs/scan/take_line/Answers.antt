@@ -1,14 +1,15 @@
-use Rattle.std.proofs.Common.{◌+◌, ◌∙◌, Option, Result, subst}
+use Rattle.std.proofs.Common.{◌+◌, ◌∙◌, Option, Result, ap, subst}
 use Rattle.ct_order.specs.declared.no_line.NoLine.{NoLine}
+use Rattle.ct_order.specs.Json.{event_in, event_of}
 use Rattle.ct_order.specs.Lines.{Entry}
 use Rattle.ct_order.specs.Scanning.{told}
 use Rattle.ct_order.specs.Taking.{MovesLine}
-use Rattle.ct_order.proofs.Worded.{event_is}
 use Rattle.ct_order.proofs.scan.take_line.Goals as goal
 
 pub returns-in-Ok : goal.returns-in-Ok
+unfolding event_in
 returns-in-Ok c =
-    subst (λ (e : Result (Option Entry) NoLine). MovesLine (told c.args.log
-    (record c.args.standing.now { count = c.args.standing.now.count + 1 }) e)
+    subst (λ (e : Result (Option Entry) NoLine).
+    MovesLine (told c.args.log (record c.args.standing.now { count = c.args.standing.now.count + 1 }) e)
     c.args.table.now c.take_event-done.new.standing c.take_event-done.new.table c.take_event-done.result)
-    (c.event_of.ensures ∙ event_is c.args.line.now c.trimmed-text.result.now c.trimmed-text.ensures) c.take_event-done.ensures
+    (c.event_of.ensures ∙ ap event_of c.trimmed-text.ensures) c.take_event-done.ensures

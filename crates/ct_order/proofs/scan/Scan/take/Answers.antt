@@ -1,8 +1,8 @@
-use Rattle.ct_order.proofs.Scanned.{stops_next, takes_all, takes_next, takes_zero}
+use Rattle.ct_order.proofs.Scanned.{stops_next, takes_all, takes_next, takes_none}
 use Rattle.ct_order.proofs.scan.Scan.take.Goals as goal
 
 pub loop-byte-init : goal.loop-byte-init
-loop-byte-init c = takes_zero c.args.log c.args.self.now c.args.table.now c.args.bytes.now
+loop-byte-init c = takes_none c.args.log c.args.self.now c.args.table.now
 
 pub loop-byte-preserved : goal.loop-byte-preserved
 loop-byte-preserved c =

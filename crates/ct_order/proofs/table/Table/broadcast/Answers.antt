@@ -1,11 +1,13 @@
 use Rattle.std.proofs.Common.{sym}
 use Rattle.std.specs.HashMap.{get_by_text}
+use Rattle.ct_order.specs.declared.act.Act.TheVariants.{Broadcast}
 use Rattle.ct_order.specs.Knowing.{is_said, known_in}
-use Rattle.ct_order.proofs.Learning.{sent_new, sets_text, tells_sent}
+use Rattle.ct_order.proofs.Learning.{sent_new, sets_text, tells_as}
 use Rattle.ct_order.proofs.table.Table.broadcast.Goals as goal
 
 pub returns-in-Some : goal.returns-in-Some
-returns-in-Some c = tells_sent c.args.self.now (is_said c.args.line) c.requires c.in-Some.field-0.now (sym c.in-Some.ensures.value)
+returns-in-Some c =
+    tells_as c.args.self.now (is_said c.args.line) Broadcast c.requires (c.in-Some.field-0.now, sym c.in-Some.ensures.value)
 
 pub returns-in_ok-insert-in-None : goal.returns-in_ok-insert-in-None
 returns-in_ok-insert-in-None c = λ seen h.

@@ -1,8 +1,8 @@
 use Rattle.std.proofs.Common.{◌≡◌, ℕ, true, is_some, string_bytes}
 use Rattle.std.specs.HashMap.{get_by_text}
 use Rattle.std.specs.List.{list_all}
+use Rattle.ct_order.specs.Knowing.{AreSent}
 use Rattle.ct_order.specs.declared.told.Told.{Told}
-use Rattle.ct_order.specs.Verdicts.{AreSent}
 use Rattle.ct_order.proofs.table.Table.unsent.Given as goal
 
 abbrev pub invariant-loop-at : goal.invariant-loop-at
