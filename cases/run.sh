@@ -606,7 +606,7 @@ check_by goals.py goals 600 "$tool"
 check_by search.py search 600 "$tool"
 check_by terminal.py terminal 300 "$tool"
 check_by waiting.py 'lines where much waits' 300 "$ct" "$tool"
-command -v etcd corosync >/dev/null && check_by systems.py 'orders of real systems' 600 "$tool"
+command -v etcd >/dev/null && check_by systems.py 'orders of real systems' 1800 "$tool"
 
 check_free_runs 'free runs'
 check_free_runs 'lossy free runs' --lose 20 --repeat 40 --batch 1

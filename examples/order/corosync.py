@@ -28,7 +28,7 @@ HERE = os.path.dirname(os.path.abspath(__file__))
 TOOL = os.path.join(HERE, "..", "..", "crates", "ct_tool", "out", "ct_tool")
 NODES = (1, 2, 3)
 KILLED, LATE = 2, 3
-SECONDS_TO_START, SECONDS_STILL, SECONDS_IN_ALL = 30, 4, 60
+SECONDS_TO_START, SECONDS_STILL, SECONDS_IN_ALL = 60, 8, 90
 OK, TRY_AGAIN = 1, 6
 AGREED, ALL_AT_ONCE = 2, 2
 GROUP = b"order"
@@ -144,7 +144,7 @@ CONF = """totem {{
   version: 2
   cluster_name: order
   transport: udpu
-  token: 500
+  token: 2000
 }}
 nodelist {{
 {nodes}}}

@@ -33,8 +33,10 @@ HERE = os.path.dirname(os.path.abspath(__file__))
 TOOL = os.path.join(HERE, "..", "..", "crates", "ct_tool", "out", "ct_tool")
 SERVERS = 3
 KILLED = 2
-SECONDS_TO_START = 30
-SECONDS_TO_END = 30
+SECONDS_TO_START = 60
+SECONDS_TO_END = 60
+SECONDS_STILL = 6   # without a delivery, where something is missing
+FEW = 5          # are written at least while the killed server is down
 PREFIX = "m"
 
 
@@ -66,6 +68,7 @@ class Server:
         self.peer = f"http://127.0.0.1:{peers[number - 1]}"
         self.log: IO[str] = open(os.path.join(folder, f"{number}.log"), "w", encoding="utf-8")
         self.said = threading.Lock()
+        self.is_down = threading.Event()   # whether the server was killed that is to be
         self.written = self.delivered = self.revision = 0
         self.process: Optional["subprocess.Popen[bytes]"] = None
         self.fault = ""
@@ -118,6 +121,8 @@ class Server:
     def write(self, count: int) -> None:
         """Creates so many keys, one behind the other."""
         for k in range(1, count + 1):
+            if k == count // 2 + 1 and self.number != KILLED:
+                self.is_down.wait(SECONDS_TO_END)
             name = f"{PREFIX}{self.number}.{k}"
             self.say(f"broadcast {name}")
             key = coded(name)
@@ -133,16 +138,18 @@ class Server:
 
     def watch(self, total: int, misses: bool) -> None:
         """Delivers what the server's watch tells; once that ends, goes on behind it, unless it misses that."""
+        has_begun = False
         while self.delivered < total:
             request: Dict[str, Any] = {"key": coded(PREFIX), "range_end": coded(chr(ord(PREFIX) + 1))}
-            if self.revision and not misses:
+            if not (misses and has_begun):
                 request["start_revision"] = str(self.revision + 1)
-            elif not self.revision:
-                request["start_revision"] = "1"
             connection = http.client.HTTPConnection("127.0.0.1", self.client, timeout=SECONDS_TO_END)
             try:
+                if misses and has_begun:
+                    self.ask("/v3/kv/range", {"key": coded(PREFIX)})   # answered once the server has caught up
                 connection.request("POST", "/v3/watch", json.dumps({"create_request": request}))
                 answer = connection.getresponse()
+                has_begun = True
                 if self.delivered:
                     self.say(f"restart {self.delivered}")
                 while self.delivered < total:
@@ -182,7 +189,11 @@ def run(options: argparse.Namespace, folder: str) -> List[str]:
         while killed.written < options.writes // 3:
             time.sleep(0.01)
         killed.kill()
-        time.sleep(1)
+        for it in servers:
+            it.is_down.set()
+        end = time.monotonic() + SECONDS_TO_END
+        while servers[0].written < min(options.writes, options.writes // 2 + FEW) and time.monotonic() < end:
+            time.sleep(0.01)
         killed.start()
         await_end(servers, writers, watches)
     finally:
@@ -196,13 +207,13 @@ def run(options: argparse.Namespace, folder: str) -> List[str]:
 
 
 def await_end(servers: List[Server], writers: List[threading.Thread], watches: List[threading.Thread]) -> None:
-    """Returns once all was written and delivered, or nothing was delivered for two seconds."""
+    """Returns once all was written and delivered, or nothing was delivered for SECONDS_STILL."""
     for it in writers:
         it.join(SECONDS_TO_END)
         if it.is_alive():
             raise Failed("a write isn't answered")
     still, since = -1, time.monotonic()
-    while any(it.is_alive() for it in watches) and time.monotonic() < since + 2:
+    while any(it.is_alive() for it in watches) and time.monotonic() < since + SECONDS_STILL:
         now = sum(it.delivered for it in servers)
         if now != still:
             still, since = now, time.monotonic()
