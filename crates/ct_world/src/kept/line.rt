@@ -73,7 +73,7 @@ impl Kept {
     }
 
     // Does a Postpone, which sends nothing.
-    #[inline(always)]
+    #[inline(never)]
     pub(super) fn postpone(&mut self, member: Member, serial: Serial, place: usize) -> u32
         requires sound { IsSound self.old }
         requires ready { HasRoom self.old (Prepared.Postpone member serial place) }
