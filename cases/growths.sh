@@ -256,6 +256,17 @@ python3 ../bench/split.py "$folder/logs" <suspicion.json
 tool_calls is_whole /dev/null merge "$folder"/logs/{1,2,3}.log
 tool_calls is_whole /dev/null merge --record "$folder"/logs/{1,2,3}.log
 tool_calls is_whole /dev/null merge --presume presumed/{1,2,3}.log
+# Logs of any broadcast: accepted, with two that lack something, with two that are wrong, and as a schedule.
+printf '%s\n' 'broadcast x' 'broadcast y' 'deliver x' 'deliver y' 'state s' end >"$folder/a.log"
+printf '%s\n' 'deliver x' 'restart 0' '{"deliver":"x"}' 'deliver y' >"$folder/b.log"
+printf '%s\n' 'deliver x' >"$folder/c.log"
+printf '%s\n' 'deliver y' >"$folder/d.log"
+printf '%s\n' state >"$folder/e.log"
+tool_calls is_whole /dev/null order "$folder"/{a,b}.log
+tool_calls is_whole /dev/null order --settled --fifo --all "$folder"/{a,c}.log
+tool_calls is_whole /dev/null order --json --all "$folder"/{a,d,e}.log
+tool_calls is_whole /dev/null order --follow "$folder"/a.log
+tool_calls is_whole /dev/null order --schedule "$folder"/{a,b,c}.log
 tool_calls is_checked /dev/null check suspicion.json
 tool_calls is_checked /dev/null check --expect-reports ../examples/followers.json
 

@@ -10,6 +10,7 @@ import os
 import subprocess
 import sys
 import tempfile
+import time
 from typing import Dict, List, NamedTuple, Sequence
 
 HERE = os.path.dirname(os.path.abspath(__file__))
@@ -73,12 +74,33 @@ CASES = [
          "overtaken: a line 3: deliver x: its process broadcast another before it (a line 1), which is not delivered before it\n", ["--fifo"]),
     Case("overtaken for good", {"a": "broadcast y\nbroadcast x\ndeliver x\n"}, 1,
          "overtaken: a line 3: deliver x: its process broadcast another before it (a line 1), which is not delivered before it\n", ["--fifo"]),
+    Case("all that is refused", {"a": A, "b": "deliver y\ndeliver y\n", "c": "deliver x\nstate\n", "d": "deliver x\ndeliver y\nstate s1\n"}, 1,
+         "refused: b line 1: deliver y: position 1: a line 3 delivered x\n"
+         "also c line 2: state: expected a word of 1 to 64 bytes, without blanks and control bytes\n"
+         "also refused: d line 3: state s1: behind 2 deliveries: a line 5 has s2\n", ["--all"]),
+    Case("one is refused of all", {"a": A, "b": "deliver y\n", "c": "deliver x\n"}, 1,
+         "refused: b line 1: deliver y: position 1: a line 3 delivered x\n", ["--all"]),
+    Case("all that is not broadcast", {"a": "deliver x\ndeliver y\nend\n", "b": "deliver x\ndeliver y\ndeliver z\nend\n"}, 1,
+         "refused: a line 1: deliver x: no log broadcasts it, and all are whole\n"
+         "also refused: b line 3: deliver z: no log broadcasts it, and all are whole\n", ["--all"]),
+    Case("all that are behind", {"a": A, "b": "deliver x\n", "c": ""}, 1,
+         "unsettled: b line 1: position 2 is missing: y, delivered in a line 4\n"
+         "also unsettled: c line 0: position 1 is missing: x, delivered in a line 3\n", ["--settled", "--all"]),
+    Case("overtaken, and behind", {"a": "broadcast y\nbroadcast x\ndeliver x\ndeliver y\n", "b": "deliver x\n"}, 1,
+         "overtaken: a line 3: deliver x: its process broadcast another before it (a line 1), which is not delivered before it\n"
+         "also unsettled: b line 1: position 2 is missing: y, delivered in a line 4\n", ["--settled", "--fifo", "--all"]),
+    Case("followed to its end", {"a": A, "b": "deliver x\nend\n"}, 0, "accepted: 2 logs, 2 deliveries; b is 1 behind\n", ["--follow"]),
+    Case("followed for a second", {"a": A, "b": "deliver x\n"}, 0, "accepted: 2 logs, 2 deliveries; b is 1 behind\n", ["--follow", "--idle", "1"]),
+    Case("followed and refused", {"a": A, "b": "deliver y\n"}, 1, "refused: b line 1: deliver y: position 1: a line 3 delivered x\n", ["--follow"]),
 ]
 SHOWN = [
     (Case("accepted", {"a": A}, 0, "", ["--json"]),
      {"verdict": "accepted", "deliveries": 2, "logs": [{"file": "a", "lines": 6, "deliveries": 2, "crashed": False, "whole": True, "torn": False}]}),
     (Case("refused", {"a": A, "b": "deliver y\n"}, 1, "", ["--json"]),
      {"verdict": "refused", "file": "b", "line": 1, "text": "deliver y", "why": "position 1: a line 3 delivered x", "other": {"file": "a", "line": 3}}),
+    (Case("all that is refused", {"a": A, "b": "deliver y\n", "c": "from x\n"}, 1, "", ["--json", "--all"]),
+     {"verdict": "refused", "file": "b", "line": 1, "text": "deliver y", "why": "position 1: a line 3 delivered x", "other": {"file": "a", "line": 3},
+      "also": [{"verdict": "no log", "file": "c", "line": 1, "text": "from x", "why": "expected a number of deliveries, 0 to 4294967295"}]}),
 ]
 
 
@@ -104,6 +126,50 @@ def faults_of_json(tool: str, case: Case, wanted: dict) -> List[str]:
     return [] if is_right else [f"status {done.returncode}: {done.stdout}"]
 
 
+def faults_of_growing(tool: str) -> List[str]:
+    """A log that is written while it is followed is refused as soon as its line is there; one that is replaced is told."""
+    wrong = []
+    with tempfile.TemporaryDirectory() as folder:
+        write(folder, "a", A)
+        write(folder, "b", "deliver x\n")
+        with following(tool, folder) as watch:
+            time.sleep(0.5)
+            write(folder, "b", "deliver x\nbroad", "r+")
+            time.sleep(0.3)
+            wrong += [f"ended with {watch.returncode}"] if watch.poll() is not None else []
+            write(folder, "b", "deliver x\nbroadcast z\ndeliver z\n", "r+")
+            wrong += told_by(watch, 1, "refused: b line 3: deliver z: position 2: a line 4 delivered y\n")
+        write(folder, "b", "deliver x\n")
+        with following(tool, folder) as watch:
+            time.sleep(0.5)
+            write(folder, "c", "deliver x\n")
+            os.replace(os.path.join(folder, "c"), os.path.join(folder, "b"))
+            wrong += told_by(watch, 4, "b: replaced\n")
+        with following(tool, folder) as watch:
+            time.sleep(0.5)
+            write(folder, "b", "de")
+            wrong += told_by(watch, 4, "b: shorter than what was read of it\n")
+    return wrong
+
+
+def write(folder: str, name: str, text: str, mode: str = "w") -> None:
+    with open(os.path.join(folder, name), mode, newline="") as file:
+        file.write(text)
+
+
+def following(tool: str, folder: str) -> subprocess.Popen:
+    return subprocess.Popen([tool, "order", "--follow", "a", "b"], cwd=folder, stdout=subprocess.PIPE, stderr=subprocess.STDOUT, text=True)
+
+
+def told_by(watch: subprocess.Popen, status: int, told: str) -> List[str]:
+    try:
+        text = watch.communicate(timeout=SECONDS)[0]
+    except subprocess.TimeoutExpired:
+        watch.kill()
+        return ["still followed"]
+    return [] if (watch.returncode, text) == (status, told) else [f"status {watch.returncode}: {text!r}"]
+
+
 def faults_of_sets(tool: str) -> List[str]:
     """Random sets agree with a search by definition, and large ones with what was put wrong."""
     program = os.path.join(HERE, "..", "bench", "orders.py")
@@ -115,6 +181,7 @@ def main() -> int:
     tool = os.path.abspath(sys.argv[1])
     checks = [(case.name, faults_of(tool, case)) for case in CASES]
     checks += [(f"JSON, {case.name}", faults_of_json(tool, case, wanted)) for case, wanted in SHOWN]
+    checks.append(("logs that grow", faults_of_growing(tool)))
     checks.append(("random sets", faults_of_sets(tool)))
     for name, wrong in checks:
         if wrong:

@@ -40,7 +40,8 @@ EQUATIONS = {
 
 # Exported functions that need neither, each with the reason.
 EXCEPTIONS = {
-    # "ct_names::Thing::call": "why no body could meet its contract and do something else",
+    "ct_order::accepted_text": "a text for people alone, which cases/orders.py compares",
+    "ct_streams::FileChange::told": "a text for people alone, which cases/orders.py compares",
 }
 
 NEITHER = "no clause equates what it answers or leaves, and no edit turns it: add one of both, or a line of EXCEPTIONS"

@@ -46,8 +46,8 @@ _ct_tool_words() {
         operands='file+'
         ;;
     order)
-        options='--settled --fifo --json -h --help'
-        values=''
+        options='--settled --fifo --json --schedule --all --follow --idle -h --help'
+        values='--idle=any'
         operands='file+'
         ;;
     record)

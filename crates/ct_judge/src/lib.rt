@@ -43,7 +43,7 @@ pub use line_refused::LineRefused;
 pub use partial::record_partial;
 pub use reading::push_shown;
 pub use record_fault::RecordFault;
-pub use recording::{MAX_LEN, record, recorded};
+pub use recording::{MAX_LEN, played, record, recorded};
 pub use session::{LONGEST, Session};
 pub use session_fault::SessionFault;
 pub use words::{interact_command, record_command};

@@ -83,9 +83,9 @@ pub fn recorded(alloc: Global, text: &[u8]) -> Result<Vec<u8>, RecordFault>
     Ok(record_line(alloc, &world)?)
 }
 
-// The world that the schedule leads to.
+/// The world that a schedule of this text leads to.
 #[tactic(auto, using(crate::proofs::Lines::finish_fault), unfolding(ct_judging::specs::Schedule::schedule))]
-fn played(alloc: Global, text: &[u8]) -> Result<World, RecordFault>
+pub fn played(alloc: Global, text: &[u8]) -> Result<World, RecordFault>
     requires { length text.now ≤ MAX_LEN }
     ensures ok { IfOk result (λ world. schedule text.now ≡ Ok world.rehearsal) }
     ensures safe { IfOk result (λ world. IsSafeRun world.rehearsal) }

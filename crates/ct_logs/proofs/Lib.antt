@@ -1,4 +1,3 @@
-pub mod Asking
 pub mod Files
 pub mod Runs
 pub mod Slots

@@ -3,7 +3,6 @@
 
 mod culprit;
 mod ending;
-mod file_watch;
 mod following;
 mod form;
 mod group_numbers;
@@ -15,7 +14,6 @@ mod merge_fault;
 mod naming;
 mod no_entry;
 mod others;
-mod pace;
 mod places;
 mod presumed;
 mod reading;
@@ -34,11 +32,9 @@ mod way;
 mod words;
 mod writing;
 
-pub use file_watch::{FileChange, FileWatch};
 pub use form::Form;
 pub use merge_fault::MergeFault;
-pub use pace::Pace;
 pub use running::merge_logs;
 pub use told::Told;
 pub use way::Way;
-pub use words::{MAX_IDLE, merge_command, merge_form, merge_idle};
+pub use words::{merge_command, merge_form};

@@ -16,13 +16,12 @@ use crate::form::Form;
 use crate::judged::{Judged, with_stopped};
 use crate::log_set::LogSet;
 use crate::merge_fault::MergeFault;
-use crate::pace::Pace;
 use crate::presumed::presumed_of;
 use crate::reading::read_texts;
 use crate::told::Told;
 use crate::way::Way;
 use ct_merge::merge;
-use ct_streams::{Failed, Files, Sink, write_all};
+use ct_streams::{Failed, Files, Pace, Sink, write_all};
 use ct_world::Setup;
 use std::alloc::Global;
 

@@ -1,6 +1,6 @@
 //! How logs are read and merged.
 
-use crate::pace::Pace;
+use ct_streams::Pace;
 
 /// How logs are read and merged.
 #[derive(Drop)]

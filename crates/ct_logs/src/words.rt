@@ -1,17 +1,13 @@
 //! The words after `merge` on a command line.
 
-ghost use Rattle.std.specs.Prelude.{◌≡◌, false, IfOk, option_map};
+ghost use Rattle.std.specs.Prelude.{◌≡◌, false, IfOk};
 ghost use Rattle.clap.specs.Words.{app_of, found_of, rows_of, rule_of};
-ghost use Rattle.ct_logs.specs.Line.{form_in, idle_in, idle_or_none, idle_rule, merge_app};
-ghost use Rattle.ct_logs.specs.Line.{presume_rule, seconds_rule};
+ghost use Rattle.ct_logs.specs.Line.{form_in, merge_app, presume_rule};
 
 use crate::form::Form;
 use clap::{Arg, ArgMatches, Command};
-use ct_streams::{WordFault, files_argument, flag, is_set, number_for, subcommand, value_option};
+use ct_streams::{files_argument, flag, idle_option, is_set, subcommand};
 use std::alloc::{AllocError, Global};
-
-/// For how many seconds logs may be followed at most without a line.
-pub const MAX_IDLE: u32 = 86_400;
 
 // What stands after the options.
 const AFTER: &str = "A log has the lines of one member, in its order:
@@ -78,7 +74,10 @@ pub fn merge_command<'a>(alloc: Global) -> Result<Command<'a>, AllocError>
         "follow",
         "Reads the logs as they grow, and refuses at once",
     ))?
-    .arg(idle(alloc)?)
+    .arg(idle_option(
+        alloc,
+        "Takes logs that are followed to be over after S\nseconds without a line, 1 to 86400",
+    )?)
 }
 
 // Whether ends of logs may be lost, which is not asked of logs that grow.
@@ -95,42 +94,6 @@ fn presume<'a>(alloc: Global) -> Result<Arg<'a>, AllocError>
         ),
     )
     .conflicts_with("follow")
-}
-
-// After how long a while without a line logs are taken to be over that are followed.
-fn idle<'a>(alloc: Global) -> Result<Arg<'a>, AllocError>
-    ensures rule { IfOk result (λ idle. rule_of idle ≡ idle_rule) }
-    ensures local { IfOk result (λ idle. idle.global ≡ false) }
-{
-    seconds(alloc).requires_arg("follow")
-}
-
-fn seconds<'a>(alloc: Global) -> Arg<'a>
-    ensures rule { rule_of result ≡ seconds_rule }
-    ensures local { result.global ≡ false }
-{
-    value_option(
-        alloc,
-        "idle",
-        "Takes logs that are followed to be over after S\nseconds without a line, 1 to 86400",
-    )
-    .value_name("S")
-}
-
-/// After how many seconds without a line logs that are followed are over, where that is given.
-pub fn merge_idle<'a>(found: &'a ArgMatches<'_>) -> Result<Option<u32>, WordFault<'a>>
-    ensures { result ≡ idle_in (rows_of (found_of found.now)) }
-{
-    idle_or_none(found.get_str("idle"))
-}
-
-fn idle_or_none<'a>(text: Option<&'a str>) -> Result<Option<u32>, WordFault<'a>>
-    ensures { result ≡ idle_or_none (option_map (λ text. text.now) text.entry) }
-{
-    match text {
-        None => Ok(None),
-        Some(text) => Ok(Some(number_for("idle", text, 1, MAX_IDLE)?)),
-    }
 }
 
 /// As what the run is to be written.

@@ -1,6 +1,6 @@
 -- Files read as logs.
 use Rattle.std.proofs.Common.{◌≡◌, ℕ, ◌+◌, ◌<◌, List, [], ◌∷◌, ◌++◌, length, map, take, get_or, Option, Some, None, slice_get}
-use Rattle.std.proofs.Common.{refl, sym, ap, ◌∙◌, subst, arith, append_assoc, option_map, min, Ok}
+use Rattle.std.proofs.Common.{refl, sym, ap, ◌∙◌, subst, arith, append_assoc, option_map, min, Ok, ◌⊎◌, inl, inr}
 use Rattle.std.specs.Io.KnownBytes.{Consumes, IsAtEnd}
 use Rattle.std.proofs.lemmas.List.{append-nil, length-map, length-take, map_push, take_more}
 use Rattle.std.proofs.lemmas.Option.{same_Some, slice_get-get_or, slice_get-map}
@@ -135,6 +135,10 @@ module _ {X : Type 0} (bytes : List ℕ → Option (List ℕ)) (f : X → List �
         halts : (w : Stop) → IsStopIn texts w → IsHaltIn texts w
         halts (stop.Line u) h = h
         halts (stop.Clash c) h = h
-        halts stop.Lines h = tt
         halts (stop.File place fault) h = tt
         halts stop.Memory h = tt
+
+pub still_halts : (texts : List (List ℕ)) (first why : Stop) → (why ≡ first) ⊎ (why ≡ stop.Memory) → IsHaltIn texts first →
+    IsHaltIn texts why
+still_halts texts first why (inl e) h = subst (λ (s : Stop). IsHaltIn texts s) (sym e) h
+still_halts texts first why (inr e) h = subst (λ (s : Stop). IsHaltIn texts s) (sym e) tt

@@ -14,7 +14,7 @@ use Rattle.ct_order.specs.declared.stop.Stop.{Stop}
 use Rattle.ct_order.specs.declared.stop.Stop.TheVariants as stop
 use Rattle.ct_order.specs.declared.table.Table.{Table}
 use Rattle.ct_order.specs.Knowing.{KnowsTable, Tells, is_said}
-use Rattle.ct_order.specs.Lines.{after_act}
+use Rattle.ct_order.specs.Lines.{after_act, next_number}
 use Rattle.ct_order.specs.Orders.{IsClash, Said}
 use Rattle.ct_order.specs.Scanning.{Fault, Scanned, Scanning, after_byte, after_bytes, after_line, go_on, joined, said_by}
 use Rattle.ct_order.specs.Taking.{IsConflictOf, IsUnreadOf, MovesLine, Stops, Takes, fault_of, said_in, said_of}
@@ -102,7 +102,6 @@ module _ (log : ℕ) (s : Scanning) (old : Table) (xs : List ℕ) (t : Scanning)
           (e.conflict.clashes (seen ++ a.said) (a.learns seen h));
     };
   }
-  stops_more ys stop.Lines e = tt
   stops_more ys (stop.File place why) e = tt
   stops_more ys stop.Memory e = tt
 
@@ -120,7 +119,6 @@ stops_rest log s old xs ys (stop.Clash c) e = record {
     clashes = e.conflict.clashes;
   };
 }
-stops_rest log s old xs ys stop.Lines e = tt
 stops_rest log s old xs ys (stop.File place why) e = tt
 stops_rest log s old xs ys stop.Memory e = tt
 
@@ -151,7 +149,7 @@ over : Scanning → ℕ → Bool → Result Scanned Fault
 over s b c =
     if c
     then Ok (record { scan = record s { pending = s.pending ++ b ∷ [] }; said = [] })
-    else Err (record { line = s.standing.count + 1; why = Long })
+    else Err (record { line = next_number s.standing; why = Long })
 
 other_byte : (log : ℕ) (s : Scanning) (b : ℕ) → (b ≡ 10 → ⊥) → after_byte log s b ≡ over s b (nat_lt (length s.pending) MAX_LINE)
 unfolding over
@@ -159,7 +157,7 @@ other_byte log s b ne =
     ap (λ c. if c then after_line log s.standing s.pending else over s b (nat_lt (length s.pending) MAX_LINE)) (ne_eqb b 10 ne)
 
 pub too_long : (log : ℕ) (s : Scanning) (old : Table) (b : ℕ) → (b ≡ 10 → ⊥) → MAX_LINE ≤ length s.pending → (why : Stop) →
-    IsUnreadOf (s.standing.count + 1) Long why → Stops log s old (b ∷ []) why
+    IsUnreadOf (next_number s.standing) Long why → Stops log s old (b ∷ []) why
 unfolding over
 too_long log s old b ne long (stop.Line u) h =
     one_fault log s b (fault_of u)

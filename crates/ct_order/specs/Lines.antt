@@ -9,7 +9,7 @@ use Rattle.ct_order.specs.declared.act.Act.{Act}
 use Rattle.ct_order.specs.declared.act.Act.TheVariants.{Broadcast, Deliver, State, From, Restart, Crash, End}
 use Rattle.ct_order.specs.declared.event.Event.{Event}
 use Rattle.ct_order.specs.declared.event.Event.TheVariants as event
-use Rattle.ct_order.specs.declared.limits.TheConstants.{MAX_DELIVERIES, MAX_WORD}
+use Rattle.ct_order.specs.declared.limits.TheConstants.{MAX_DELIVERIES, MAX_LINES, MAX_WORD}
 use Rattle.ct_order.specs.declared.no_line.NoLine.{NoLine}
 use Rattle.ct_order.specs.declared.no_line.NoLine.TheVariants.{Unknown, Word, Number, More, Whole, Crashed, Full}
 use Rattle.ct_order.specs.declared.standing.Standing.{Standing}
@@ -107,18 +107,26 @@ may_follow_crash (Restart n) = true
 may_follow_crash End = true
 may_follow_crash _ = false
 
+-- the number of the next line; of each behind the last that a log may have it is the same
+abbrev pub next_number : Standing → ℕ
+next_number s = if nat_lt s.count MAX_LINES then s.count + 1 else MAX_LINES + 1
+
+-- with so many deliveries
+abbrev pub reaching : Standing → ℕ → Standing
+reaching s n = record s { at = n; most = if nat_lt s.most n then n else s.most }
+
 abbrev pub moved : Standing → Act → Result Standing NoLine
 moved s Broadcast = Ok s
 moved s State = Ok s
-moved s Deliver = if nat_lt s.at MAX_DELIVERIES then Ok (record s { at = s.at + 1 }) else Err Full
-moved s (From n) = Ok (record s { at = n })
-moved s (Restart n) = Ok (record s { at = n; is_down = false })
+moved s Deliver = if nat_lt s.at MAX_DELIVERIES then Ok (reaching s (s.at + 1)) else Err Full
+moved s (From n) = Ok (reaching s n)
+moved s (Restart n) = Ok (record (reaching s n) { is_down = false })
 moved s Crash = Ok (record s { is_down = true })
 moved s End = Ok (record s { is_whole = true })
 
 -- before the first line
 abbrev pub start : Standing
-start = record { count = 0; at = 0; is_down = false; is_whole = false }
+start = record { count = 0; at = 0; most = 0; is_down = false; is_whole = false }
 
 -- where the log stands behind a line that says this
 abbrev pub after_act : Standing → Act → Result Standing NoLine

@@ -1,11 +1,11 @@
 -- What the bytes of a log say.
 use Rattle.std.specs.Prelude.{ℕ, ◌+◌, ◌==◌, List, [], ◌∷◌, ◌++◌, Option, Some, None, Result, Ok, Err, if◌then◌else◌, length, nat_lt}
-use Rattle.ct_order.specs.declared.limits.TheConstants.{MAX_LINE}
+use Rattle.ct_order.specs.declared.limits.TheConstants.{MAX_LINE, MAX_LINES}
 use Rattle.ct_order.specs.declared.no_line.NoLine.{NoLine}
-use Rattle.ct_order.specs.declared.no_line.NoLine.TheVariants.{Long}
+use Rattle.ct_order.specs.declared.no_line.NoLine.TheVariants.{Long, Many}
 use Rattle.ct_order.specs.declared.standing.Standing.{Standing}
 use Rattle.ct_order.specs.Json.{event_in}
-use Rattle.ct_order.specs.Lines.{Entry, after_act, start}
+use Rattle.ct_order.specs.Lines.{Entry, after_act, next_number, start}
 use Rattle.ct_order.specs.Orders.{Said}
 
 -- a log behind some first bytes: where it stands, and the bytes of a line that no line feed ends yet
@@ -42,7 +42,9 @@ told log s (Ok (Some e)) = said_by log s e (after_act s e.act)
 
 -- behind a line of the log of this place among the logs
 abbrev pub after_line : ℕ → Standing → List ℕ → Result Scanned Fault
-after_line log s line = told log (record s { count = s.count + 1 }) (event_in line)
+after_line log s line =
+    if nat_lt s.count MAX_LINES then told log (record s { count = s.count + 1 }) (event_in line)
+    else Err (record { line = MAX_LINES + 1; why = Many })
 
 -- ---- bytes
 
@@ -51,7 +53,7 @@ after_byte log s byte =
     if byte == 10 then after_line log s.standing s.pending else (
     if nat_lt (length s.pending) MAX_LINE
     then Ok (record { scan = record s { pending = s.pending ++ byte ∷ [] }; said = [] })
-    else Err (record { line = s.standing.count + 1; why = Long }))
+    else Err (record { line = next_number s.standing; why = Long }))
 
 abbrev pub joined : List Said → Result Scanned Fault → Result Scanned Fault
 joined said (Err u) = Err u

@@ -3,7 +3,7 @@
 /// How many logs there may be: one of each process.
 pub const MAX_LOGS: usize = 1_024;
 
-/// How many lines all logs may have together.
+/// How many lines a log may have.
 pub const MAX_LINES: u32 = 10_000_000;
 
 /// How many bytes a line may have.

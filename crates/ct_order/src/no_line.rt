@@ -23,6 +23,8 @@ pub enum NoLine {
     Long,
     /// Its process delivered too much.
     Full,
+    /// Its log has too many lines before it.
+    Many,
 }
 
 impl fmt::Display for NoLine {
@@ -39,6 +41,7 @@ impl fmt::Display for NoLine {
             NoLine::Crashed => "restart N or end stands behind crash",
             NoLine::Long => "a line of at most 65536 bytes",
             NoLine::Full => "at most 4294967295 deliveries of a process",
+            NoLine::Many => "at most 10000000 lines of a log",
         })
     }
 }

@@ -10,16 +10,16 @@ use thiserror::Error;
 /// Why logs are not accepted. Its text is the line for standard error.
 #[derive(Debug, Drop, Error)]
 pub enum OrderFault {
-    /// This is wrong with them; the same as JSON.
+    /// This is wrong with them first; what is told of all that is, a line each, and the same as JSON.
     #[error("{text}")]
     Wrong {
         wrong: Wrong,
         text: String,
         json: String,
     },
-    /// They have too much.
-    #[error("limit: {0}")]
-    Limit(String),
+    /// There are too many of them.
+    #[error("limit: at most 1024 logs")]
+    Logs,
     /// Standard input is named twice.
     #[error("-: standard input has one log alone")]
     Twice,
@@ -29,6 +29,9 @@ pub enum OrderFault {
         fault: FileFault,
         text: String,
     },
+    /// A file that is followed is another now, or shorter than what was read of it.
+    #[error("{0}")]
+    Changed(String),
     /// The writer failed.
     #[error("write failed")]
     Write,
@@ -47,11 +50,14 @@ impl Fault for OrderFault {
             OrderFault::Wrong { wrong, .. } => match wrong {
                 Wrong::NoLog => Status::NoRecord.code(),
                 Wrong::Incomplete => 6,
+                Wrong::Limit => 8,
                 Wrong::Refused | Wrong::Unsettled | Wrong::Overtaken => Status::Refused.code(),
             },
-            OrderFault::Limit(_) => 8,
+            OrderFault::Logs => 8,
             OrderFault::Twice => Status::Words.code(),
-            OrderFault::File { .. } | OrderFault::Write => Status::Stream.code(),
+            OrderFault::File { .. } | OrderFault::Changed(_) | OrderFault::Write => {
+                Status::Stream.code()
+            }
             OrderFault::Memory => Status::Memory.code(),
         }
     }

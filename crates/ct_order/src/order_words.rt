@@ -1,12 +1,12 @@
 //! The words after `order` on a command line.
 
-ghost use Rattle.std.specs.Prelude.{◌≡◌, IfOk};
-ghost use Rattle.clap.specs.Words.{app_of, found_of, rows_of};
-ghost use Rattle.ct_order.specs.Command.{asked_in, order_app};
+ghost use Rattle.std.specs.Prelude.{◌≡◌, false, IfOk};
+ghost use Rattle.clap.specs.Words.{app_of, found_of, rows_of, rule_of};
+ghost use Rattle.ct_order.specs.Command.{alone_rule, asked_in, order_app};
 
-use crate::running::Asked;
-use clap::{ArgMatches, Command};
-use ct_streams::{files_argument, flag, is_set, subcommand};
+use crate::asked::Asked;
+use clap::{Arg, ArgMatches, Command};
+use ct_streams::{files_argument, flag, idle_option, is_set, subcommand};
 use std::alloc::{AllocError, Global};
 
 // What stands after the options.
@@ -24,9 +24,13 @@ They are accepted where there is one order of messages, without repeats, of
 which the deliveries of each log are the part that it says, each message
 broadcast in some log, and the same state behind the same deliveries.
 
+With --follow logs are read as they grow, until each ends with end.
+
 Examples:
   ct_tool order a.log b.log c.log
   ct_tool order --settled --fifo *.log
+  ct_tool order --schedule *.log | ct_tool record | ct_tool diagram
+  ct_tool order --follow --idle 10 *.log
 
 Status:
   0  the logs are accepted
@@ -70,7 +74,44 @@ pub fn order_command<'a>(alloc: Global) -> Result<Command<'a>, AllocError>
             "order in which it broadcast them",
         ),
     ))?
-    .arg(flag(alloc, "json", "Writes what the logs come to as JSON"))
+    .arg(flag(alloc, "json", "Writes what the logs come to as JSON"))?
+    .arg(alone(
+        alloc,
+        "schedule",
+        "json",
+        concat!(
+            "Writes, of logs that are accepted, a schedule whose\n",
+            "run has their deliveries",
+        ),
+    )?)?
+    .arg(alone(
+        alloc,
+        "all",
+        "follow",
+        "Tells of each log what is wrong with it first",
+    )?)?
+    .arg(flag(
+        alloc,
+        "follow",
+        "Reads the logs as they grow, and refuses at once",
+    ))?
+    .arg(idle_option(
+        alloc,
+        "Takes logs that are followed to be over after S\nseconds without a line, 1 to 86400",
+    )?)
+}
+
+// An option with no value that may not stand beside another.
+fn alone<'a>(
+    alloc: Global,
+    name: &'a str,
+    other: &'a str,
+    help: &'a str,
+) -> Result<Arg<'a>, AllocError>
+    ensures rule { IfOk result (λ option. rule_of option ≡ alone_rule name.entry.now) }
+    ensures local { IfOk result (λ option. option.global ≡ false) }
+{
+    flag(alloc, name, help).conflicts_with(other)
 }
 
 /// What is asked of logs besides.
@@ -81,5 +122,6 @@ pub fn order_asked(found: &ArgMatches<'_>) -> Asked
         settled: is_set(found, "settled"),
         fifo: is_set(found, "fifo"),
         json: is_set(found, "json"),
+        all: is_set(found, "all"),
     }
 }

@@ -3,7 +3,7 @@
 ghost use Rattle.std.specs.Prelude.{◌≡◌, ◌<◌, ◌^◌, ℕ, IfOk, List, Some, length, map, vec_len};
 ghost use Rattle.ct_order.specs.Reading.{AreRead, AreTexts, EndsAs, IsScanned};
 
-use crate::limits::MAX_LINES;
+use crate::others::Others;
 use crate::scan::Scan;
 use crate::standing::Standing;
 use crate::stop::Stop;
@@ -12,11 +12,11 @@ use ct_streams::{FileFault, Files, Source};
 use std::alloc::{AllocError, Global};
 
 // How many bytes are read at a time.
-const PIECE: usize = 65_536;
+pub(crate) const PIECE: usize = 65_536;
 
 /// Where a log ends.
 #[derive(Clone, Copy, Debug, Drop)]
-pub(crate) struct LogEnd {
+pub struct LogEnd {
     pub standing: Standing,
     /// Its last line has no line feed, and is left out.
     pub is_torn: bool,
@@ -24,25 +24,31 @@ pub(crate) struct LogEnd {
 
 /// What logs say, all of which were read.
 #[derive(Drop)]
-pub(crate) struct Judged {
+pub struct Judged {
     pub table: Table,
     /// Where each ends, in the order of the logs.
     pub ends: Vec<LogEnd>,
 }
 
-/// Reads the files of these names as logs, in their order.
-pub(crate) fn read_logs<F: Files>(alloc: Global, files: &F, names: &[&str]) -> Result<Judged, Stop>
+/// Reads the files of these names as logs, in their order. Where one stops, the others are read all the same if all stops are asked for,
+/// and theirs are put among the others.
+pub(crate) fn read_logs<F: Files>(
+    alloc: Global,
+    files: &F,
+    names: &[&str],
+    others: &mut Others,
+) -> Result<Judged, Stop>
     requires { length names.now < 2 ^ 31 }
     ensures { (texts : List (List ℕ)) → AreTexts (F.bytes files.now) (map (λ name. name.now) names.now) texts → AreRead texts result }
 {
     match piece(alloc) {
-        Ok(mut piece) => read_by(alloc, files, names, &mut piece),
+        Ok(mut piece) => read_by(alloc, files, names, others, &mut piece),
         Err(_) => Err(Stop::Memory),
     }
 }
 
 // Room for one read.
-fn piece(alloc: Global) -> Result<Vec<u8>, AllocError>
+pub(crate) fn piece(alloc: Global) -> Result<Vec<u8>, AllocError>
     ensures { IfOk result (λ piece. 0 < vec_len piece) }
 {
     match vec![in alloc; 0u8; PIECE] {
@@ -56,6 +62,7 @@ fn read_by<F: Files>(
     alloc: Global,
     files: &F,
     names: &[&str],
+    others: &mut Others,
     piece: &mut [u8],
 ) -> Result<Judged, Stop>
     requires few { length names.now < 2 ^ 31 }
@@ -64,38 +71,35 @@ fn read_by<F: Files>(
 {
     let mut table = Table::new(alloc);
     let mut ends = Vec::new(alloc);
-    let mut most = MAX_LINES;
     for name in names {
         let log = ends.len() as u32;
-        match read_file(alloc, files, name, &mut table, log, most, piece) {
-            Ok(end) => {
-                most = most.saturating_sub(end.standing.count);
-                match ends.push(end) {
-                    Ok(()) => {}
-                    Err(_) => return Err(Stop::Memory),
-                }
+        match read_file(alloc, files, name, &mut table, log, piece) {
+            Ok(end) => match ends.push(end) {
+                Ok(()) => {}
+                Err(_) => return Err(Stop::Memory),
+            },
+            Err(stop) => {
+                return Err(others.read(alloc, files, names, log, &mut table, piece, stop));
             }
-            Err(stop) => return Err(stop),
         }
     }
     Ok(Judged { table, ends })
 }
 
-// Reads the file of this name, as the log of this place, which may have so many lines.
-fn read_file<F: Files>(
+// Reads the file of this name, as the log of this place.
+pub(crate) fn read_file<F: Files>(
     alloc: Global,
     files: &F,
     name: &str,
     table: &mut Table,
     log: u32,
-    most: u32,
     piece: &mut [u8],
 ) -> Result<LogEnd, Stop>
     requires { 0 < length piece.old }
     ensures { (text : List ℕ) → F.bytes files.now name.now ≡ Some text → EndsAs log table.old text table.new result }
 {
     match files.open(name) {
-        Ok(mut reader) => match read_log(alloc, table, log, most, &mut reader, piece) {
+        Ok(mut reader) => match read_log(alloc, table, log, &mut reader, piece) {
             Ok(scan) => Ok(LogEnd {
                 standing: scan.standing(),
                 is_torn: scan.is_torn(),
@@ -106,12 +110,11 @@ fn read_file<F: Files>(
     }
 }
 
-// Reads what the reader has, as the log of this place, which may have so many lines.
+// Reads what the reader has, as the log of this place.
 fn read_log<R: Source>(
     alloc: Global,
     table: &mut Table,
     log: u32,
-    most: u32,
     reader: &mut R,
     piece: &mut [u8],
 ) -> Result<Scan, Stop>
@@ -119,7 +122,7 @@ fn read_log<R: Source>(
     requires room { 0 < length piece.old }
     ensures { (text : List ℕ) → R.left reader.old ≡ Some text → IsScanned log table.old text table.new result }
 {
-    let mut scan = Scan::new(alloc, most);
+    let mut scan = Scan::new(alloc);
     for turn in 0..u64::MAX {
         // The loop is named by it.
         let _ = turn;

@@ -16,45 +16,41 @@ pub(crate) struct Report {
 
 impl Report {
     // The line for standard error.
-    pub(crate) fn line(
+    pub(crate) fn push_line(
         &self,
-        alloc: Global,
+        line: &mut String,
         names: &[&str],
         wrong: Wrong,
-    ) -> Result<String, AllocError> {
-        let mut line = String::new(alloc);
+    ) -> Result<(), AllocError> {
         if !matches!(wrong, Wrong::NoLog) {
             write!(line, "{}: ", wrong.word())?;
         }
-        push_place(&mut line, names, self.place)?;
+        push_place(line, names, self.place)?;
         if !self.text.is_empty() {
             write!(line, ": {}", self.text.as_str())?;
         }
-        write!(line, ": {}", self.why.as_str())?;
-        Ok(line)
+        write!(line, ": {}", self.why.as_str())
     }
 
-    // The same as an object of JSON, with the verdict.
-    pub(crate) fn json(
+    // The same as an object of JSON, with the verdict; without the brace at its end.
+    pub(crate) fn push_json(
         &self,
-        alloc: Global,
+        text: &mut String,
         names: &[&str],
         wrong: Wrong,
-    ) -> Result<String, AllocError> {
-        let mut text = String::new(alloc);
+    ) -> Result<(), AllocError> {
         write!(text, "{{\"verdict\":\"{}\",", wrong.word())?;
-        push_json_place(&mut text, names, self.place)?;
+        push_json_place(text, names, self.place)?;
         text.push_str(",\"text\":")?;
-        push_json(&mut text, self.text.as_str())?;
+        push_json(text, self.text.as_str())?;
         text.push_str(",\"why\":")?;
-        push_json(&mut text, self.why.as_str())?;
+        push_json(text, self.why.as_str())?;
         if let Some(other) = self.other {
             text.push_str(",\"other\":{")?;
-            push_json_place(&mut text, names, other)?;
+            push_json_place(text, names, other)?;
             text.push_str("}")?;
         }
-        text.push_str("}\n")?;
-        Ok(text)
+        Ok(())
     }
 }
 

@@ -1,6 +1,7 @@
 //! From the bytes of a log to what its lines say.
 
-ghost use Rattle.std.specs.Prelude.{◌≡◌, ◌<◌, ◌∷◌, []};
+ghost use Rattle.std.specs.Prelude.{◌≡◌, ◌∷◌, []};
+ghost use Rattle.ct_order.specs.Json.{event_in};
 ghost use Rattle.ct_order.specs.Lines.{entry_of};
 ghost use Rattle.ct_order.specs.Scanning.{after_line, beginning, told};
 ghost use Rattle.ct_order.specs.Taking.{IsConflictOf, IsUnreadOf, Moves, MovesLine, said_in};
@@ -9,7 +10,7 @@ use crate::act::Act;
 use crate::clash::Clash;
 use crate::event::Event;
 use crate::json::{event_of, value_in};
-use crate::limits::MAX_LINE;
+use crate::limits::{MAX_LINE, MAX_LINES};
 use crate::line::Line;
 use crate::no_line::NoLine;
 use crate::place::Place;
@@ -29,8 +30,6 @@ pub(crate) struct Scan {
     standing: Standing,
     // The bytes of a line that no line feed ends yet.
     pending: Vec<u8>,
-    // How many lines it may have.
-    most: u32,
 }
 
 // Contracts see both.
@@ -43,14 +42,13 @@ impl Model for Scan {
 }
 
 impl Scan {
-    // Nothing is read of a log that may have so many lines.
-    pub(crate) fn new(alloc: Global, most: u32) -> Scan
+    // Nothing is read of a log.
+    pub(crate) fn new(alloc: Global) -> Scan
         ensures { result ≡ beginning }
     {
         Scan {
             standing: Standing::new(),
             pending: Vec::new(alloc),
-            most,
         }
     }
 
@@ -95,14 +93,11 @@ impl Scan {
     ) -> Result<(), Stop>
         ensures { Moves log self.old table.old (byte ∷ []) self.new table.new result }
     {
-        if self.standing.count >= self.most {
-            return Err(Stop::Lines);
-        }
         if byte == b'\n' {
             return self.end_line(alloc, table, log);
         }
         if self.pending.len() >= MAX_LINE {
-            let line = self.standing.count + 1;
+            let line = self.standing.next_number();
             return Err(no_line(alloc, log, line, &self.pending, NoLine::Long));
         }
         match self.pending.push(byte) {
@@ -113,7 +108,6 @@ impl Scan {
 
     // Takes the line that a line feed ends here.
     fn end_line(&mut self, alloc: Global, table: &mut Table, log: u32) -> Result<(), Stop>
-        requires { self.old.standing.count < 4294967295 }
         ensures { Moves log self.old table.old (10 ∷ []) self.new table.new result }
     {
         match take_line(alloc, table, log, &mut self.standing, &self.pending) {
@@ -134,10 +128,26 @@ fn take_line(
     standing: &mut Standing,
     line: &[u8],
 ) -> Result<(), Stop>
-    requires { standing.old.count < 4294967295 }
     ensures { MovesLine (after_line log standing.old line.now) table.old standing.new table.new result }
 {
-    standing.count += 1;
+    if standing.count < MAX_LINES {
+        standing.count += 1;
+        take_counted(alloc, table, log, standing, line)
+    } else {
+        Err(no_line(alloc, log, MAX_LINES + 1, line, NoLine::Many))
+    }
+}
+
+// Takes the line of the log at which it stands.
+fn take_counted(
+    alloc: Global,
+    table: &mut Table,
+    log: u32,
+    standing: &mut Standing,
+    line: &[u8],
+) -> Result<(), Stop>
+    ensures { MovesLine (told log standing.old (event_in line.now)) table.old standing.new table.new result }
+{
     let text = trimmed(line);
     match value_in(alloc, text) {
         Ok(value) => {

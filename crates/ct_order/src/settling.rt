@@ -1,11 +1,13 @@
 //! Messages that processes lack, and messages that others overtake.
 
 use crate::act::Act;
+use crate::finding::Finding;
 use crate::place::Place;
 use crate::reading::{Judged, LogEnd};
 use crate::report::{Report, act_text, push_place};
 use crate::table::Table;
 use crate::telling::furthest;
+use crate::wrong::Wrong;
 use std::alloc::{AllocError, Global};
 
 /// A message that a process broadcast.
@@ -16,21 +18,30 @@ struct Sent {
     at: Option<u64>,
 }
 
-// What a process that did not crash lacks of what one of them delivered, or broadcast.
+// What processes that did not crash lack of what one of them delivered, or broadcast; the first of these, or the first of each.
 pub(crate) fn lacking(
     alloc: Global,
     names: &[&str],
     judged: &Judged,
-) -> Result<Option<Report>, AllocError> {
+    all: bool,
+    findings: &mut Vec<Finding>,
+) -> Result<(), AllocError> {
+    let wrong = Wrong::Unsettled;
     let far = furthest(&judged.ends, true);
     let mut log = 0u32;
+    let mut is_behind = false;
     for end in &judged.ends {
-        if !end.standing.is_down && end.standing.at < far {
-            return Ok(Some(behind_report(alloc, names, judged, log, *end)?));
+        if !end.standing.is_down && end.standing.at < far && (all || !is_behind) {
+            is_behind = true;
+            let report = behind_report(alloc, names, judged, log, *end)?;
+            findings.push(Finding { wrong, report })?;
         }
         log = log.saturating_add(1);
     }
-    undelivered(alloc, judged, far)
+    if !is_behind && let Some(report) = undelivered(alloc, judged, far)? {
+        findings.push(Finding { wrong, report })?;
+    }
+    Ok(())
 }
 
 // The log ends before a message that another process delivered.
@@ -102,38 +113,71 @@ fn sent_in(alloc: Global, table: &Table) -> Result<Vec<Sent>, AllocError> {
     Ok(sent)
 }
 
-// A message that is delivered before another that its process broadcast before it.
+// Messages that are delivered before another that their process broadcast before; the first of these, or the first of each.
 pub(crate) fn overtaking(
     alloc: Global,
     names: &[&str],
     judged: &Judged,
-) -> Result<Option<Report>, AllocError> {
+    all: bool,
+    findings: &mut Vec<Finding>,
+) -> Result<(), AllocError> {
     let gap = first_gap(&judged.table);
-    let mut log = u32::MAX;
-    // The last one before it that is delivered, and the first that is not.
-    let mut last: Option<Sent> = None;
-    let mut lost: Option<Sent> = None;
+    let mut process = Process::new(u32::MAX);
     for next in &sent_in(alloc, &judged.table)? {
-        if next.place.log != log {
-            log = next.place.log;
-            last = None;
-            lost = None;
+        if next.place.log != process.log {
+            process = Process::new(next.place.log);
         }
+        if let Some((at, before)) = process.overtaken(*next, gap)
+            && (all || findings.is_empty())
+            && let Some(report) = overtaking_report(alloc, names, judged, at, before)?
+        {
+            let wrong = Wrong::Overtaken;
+            findings.push(Finding { wrong, report })?;
+        }
+    }
+    Ok(())
+}
+
+/// What a process broadcast, up to some line.
+#[derive(Clone, Copy, Drop)]
+struct Process {
+    log: u32,
+    // The last one that is delivered, and the first that is not.
+    last: Option<Sent>,
+    lost: Option<Sent>,
+    is_told: bool,
+}
+
+impl Process {
+    fn new(log: u32) -> Process {
+        Process {
+            log,
+            last: None,
+            lost: None,
+            is_told: false,
+        }
+    }
+
+    // Where the next one overtakes another that was broadcast before it: where it is delivered, and the other; once.
+    fn overtaken(&mut self, next: Sent, gap: u64) -> Option<(u64, Place)> {
         let Some(at) = next.at else {
-            lost = lost.or(Some(*next));
-            continue;
+            self.lost = self.lost.or(Some(next));
+            return None;
         };
+        let (last, lost) = (self.last, self.lost);
         let before = match last {
             Some(last) if last.at > Some(at) => Some(last),
             _ if at <= gap => lost,
             _ => None,
         };
-        if let Some(before) = before {
-            return overtaking_report(alloc, names, judged, at, before.place);
+        self.last = Some(next);
+        if self.is_told {
+            return None;
         }
-        last = Some(*next);
+        let before = before?;
+        self.is_told = true;
+        Some((at, before.place))
     }
-    Ok(None)
 }
 
 fn overtaking_report(

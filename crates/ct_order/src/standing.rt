@@ -1,10 +1,10 @@
 //! Where logs stand.
 
 ghost use Rattle.std.specs.Prelude.{◌≡◌};
-ghost use Rattle.ct_order.specs.Lines.{after_act, may_follow_crash, start};
+ghost use Rattle.ct_order.specs.Lines.{after_act, may_follow_crash, next_number, reaching, start};
 
 use crate::act::Act;
-use crate::limits::MAX_DELIVERIES;
+use crate::limits::{MAX_DELIVERIES, MAX_LINES};
 use crate::no_line::NoLine;
 
 /// Where a log stands behind some of its lines.
@@ -14,6 +14,8 @@ pub struct Standing {
     pub count: u32,
     /// How many deliveries its process has.
     pub at: u64,
+    /// The most that it had.
+    pub most: u64,
     /// The process crashed, and did not restart.
     pub is_down: bool,
     /// The log says that it is whole.
@@ -28,6 +30,7 @@ impl Standing {
         Standing {
             count: 0,
             at: 0,
+            most: 0,
             is_down: false,
             is_whole: false,
         }
@@ -45,19 +48,12 @@ impl Standing {
         }
         match act {
             Act::Broadcast | Act::State => Ok(self),
-            Act::Deliver if self.at < MAX_DELIVERIES => Ok(Standing {
-                at: self.at + 1,
-                ..self
-            }),
+            Act::Deliver if self.at < MAX_DELIVERIES => Ok(self.reaching(self.at + 1)),
             Act::Deliver => Err(NoLine::Full),
-            Act::From(count) => Ok(Standing {
-                at: u64::from(count),
-                ..self
-            }),
+            Act::From(count) => Ok(self.reaching(u64::from(count))),
             Act::Restart(count) => Ok(Standing {
-                at: u64::from(count),
                 is_down: false,
-                ..self
+                ..self.reaching(u64::from(count))
             }),
             Act::Crash => Ok(Standing {
                 is_down: true,
@@ -68,6 +64,25 @@ impl Standing {
                 ..self
             }),
         }
+    }
+
+    // The number of the next line; of each behind the last that a log may have it is the same.
+    pub(crate) fn next_number(self) -> u32
+        ensures { result ≡ next_number self }
+    {
+        if self.count < MAX_LINES {
+            self.count + 1
+        } else {
+            MAX_LINES + 1
+        }
+    }
+
+    // With so many deliveries.
+    fn reaching(self, at: u64) -> Standing
+        ensures { result ≡ reaching self at }
+    {
+        let most = if self.most < at { at } else { self.most };
+        Standing { at, most, ..self }
     }
 }
 

@@ -39,8 +39,6 @@ pub enum Stop {
     Line(Unread),
     /// A line contradicts one before it.
     Clash(Conflict),
-    /// The logs have too many lines.
-    Lines,
     /// The file of the log of this place, from 0, is not read.
     File(u32, FileFault),
     /// Memory was refused.

@@ -14,7 +14,7 @@ use std::collections::HashMap;
 
 /// What lines of logs told; what the first of them told stays.
 #[derive(Drop)]
-pub(crate) struct Table {
+pub struct Table {
     /// The line that broadcasts a message.
     pub sent: HashMap<String, Place>,
     /// The line that delivers a message.

@@ -2,10 +2,12 @@
 
 use crate::act::Act;
 use crate::clash::Clash;
+use crate::finding::Finding;
 use crate::place::{Delivery, Place};
 use crate::reading::{Judged, LogEnd};
 use crate::report::{Report, act_text, name_of, push_json, push_place};
 use crate::stop::{Conflict, Unread};
+use crate::wrong::Wrong;
 use std::alloc::{AllocError, Global};
 
 // A line that contradicts one before it.
@@ -51,11 +53,11 @@ pub(crate) fn conflict_report(
 }
 
 // A line that stands in no log.
-pub(crate) fn unread_report(alloc: Global, unread: Unread) -> Result<Report, AllocError> {
-    let Unread { place, text, why } = unread;
+pub(crate) fn unread_report(alloc: Global, unread: &Unread) -> Result<Report, AllocError> {
+    let why = unread.why;
     Ok(Report {
-        place,
-        text,
+        place: unread.place,
+        text: String::from_str(alloc, unread.text.as_str())?,
         why: format!(in alloc; "expected {why}")?,
         other: None,
     })
@@ -88,6 +90,43 @@ pub(crate) fn unsent_report(
     })
 }
 
+// Of each other log the first line that delivers what no log broadcasts, where these are asked for.
+pub(crate) fn others_unsent(
+    alloc: Global,
+    names: &[&str],
+    all: bool,
+    wrong: Wrong,
+    judged: &Judged,
+    first: Delivery,
+) -> Result<Vec<Finding>, AllocError> {
+    let mut findings = Vec::new(alloc);
+    if !all {
+        return Ok(findings);
+    }
+    let mut is_told = vec![in alloc; false; names.len()]?;
+    tell(&mut is_told, first.place.log);
+    for (at, told) in &judged.table.order {
+        let place = told.place;
+        if judged.table.sent.get(told.word.as_str()).is_none() && tell(&mut is_told, place.log) {
+            let at = *at;
+            let report = unsent_report(alloc, names, judged, Delivery { at, place })?;
+            findings.push(Finding { wrong, report })?;
+        }
+    }
+    Ok(findings)
+}
+
+// Whether nothing is told yet of this log.
+fn tell(is_told: &mut [bool], log: u32) -> bool {
+    match is_told.get_mut(log as usize) {
+        Some(is_told) if !*is_told => {
+            *is_told = true;
+            true
+        }
+        _ => false,
+    }
+}
+
 // How many deliveries the furthest process has, or the furthest that did not crash.
 pub(crate) fn furthest(ends: &[LogEnd], is_up: bool) -> u64 {
     let mut most = 0u64;
@@ -99,12 +138,8 @@ pub(crate) fn furthest(ends: &[LogEnd], is_up: bool) -> u64 {
     most
 }
 
-// What is told of logs that are accepted.
-pub(crate) fn accepted_text(
-    alloc: Global,
-    names: &[&str],
-    judged: &Judged,
-) -> Result<String, AllocError> {
+/// What is told of logs that are accepted.
+pub fn accepted_text(alloc: Global, names: &[&str], judged: &Judged) -> Result<String, AllocError> {
     let mut text = String::new(alloc);
     let mut notes = String::new(alloc);
     let most = furthest(&judged.ends, false);

@@ -5,6 +5,8 @@
 pub enum Wrong {
     /// A line stands in no log.
     NoLog,
+    /// A log has too many lines, or its process too many deliveries.
+    Limit,
     /// They are not those of one atomic broadcast.
     Refused,
     /// A message is delivered whose broadcast may stand in a log that is cut.
@@ -20,6 +22,7 @@ impl Wrong {
     pub(crate) fn word(self) -> &'static str {
         match self {
             Wrong::NoLog => "no log",
+            Wrong::Limit => "limit",
             Wrong::Refused => "refused",
             Wrong::Incomplete => "incomplete",
             Wrong::Unsettled => "unsettled",

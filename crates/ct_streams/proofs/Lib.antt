@@ -1,3 +1,4 @@
+pub mod Asking
 pub mod Fronts
 pub mod Numbers
 pub mod Options

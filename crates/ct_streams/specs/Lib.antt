@@ -6,3 +6,4 @@ pub mod FileFaults
 pub mod WordFaults
 pub mod Arguments
 pub mod Values
+pub mod Following

@@ -1,7 +1,7 @@
 //! How long logs are followed.
 
 use crate::file_identity::FileIdentity;
-use ct_logs::{FileChange, FileWatch, Pace};
+use ct_streams::{FileChange, Pace};
 use std::alloc::AllocError;
 use std::io::ErrorKind;
 use std::time::{Duration, Instant};
@@ -56,20 +56,6 @@ impl<'a> Clockwork<'a> {
     }
 }
 
-impl FileWatch for Clockwork<'_> {
-    fn change(&self, place: usize, name: &str, bytes: usize) -> Option<FileChange> {
-        let first = self.files.get(place).copied()??;
-        match fs::metadata(self.rt, name) {
-            Ok(metadata) if FileIdentity::of(&metadata) != first => Some(FileChange::Replaced),
-            Ok(metadata) if metadata.is_file() && metadata.len() < bytes as u64 => {
-                Some(FileChange::Shorter)
-            }
-            Err(error) if error.kind() == ErrorKind::NotFound => Some(FileChange::Removed),
-            _ => None,
-        }
-    }
-}
-
 impl Pace for Clockwork<'_> {
     fn goes_on(&mut self, bytes: usize, lines: usize) -> bool {
         if lines > 0 {
@@ -83,5 +69,17 @@ impl Pace for Clockwork<'_> {
             thread::sleep(self.rt, Duration::from_millis(WAIT_MILLIS));
         }
         true
+    }
+
+    fn change(&self, place: usize, name: &str, bytes: usize) -> Option<FileChange> {
+        let first = self.files.get(place).copied()??;
+        match fs::metadata(self.rt, name) {
+            Ok(metadata) if FileIdentity::of(&metadata) != first => Some(FileChange::Replaced),
+            Ok(metadata) if metadata.is_file() && metadata.len() < bytes as u64 => {
+                Some(FileChange::Shorter)
+            }
+            Err(error) if error.kind() == ErrorKind::NotFound => Some(FileChange::Removed),
+            _ => None,
+        }
     }
 }

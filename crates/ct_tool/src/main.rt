@@ -11,6 +11,7 @@ mod searching;
 mod sessions;
 mod showing;
 mod terminal;
+mod told_files;
 mod trials;
 
 use clap::{ArgMatches, Command};

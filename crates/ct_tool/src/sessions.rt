@@ -3,11 +3,13 @@
 use crate::clockwork::Clockwork;
 use crate::ending::{close, done, refuse, written};
 use crate::host::{Host, can_write};
+use crate::told_files::ToldFiles;
 use clap::ArgMatches;
+use ct_enact::enact_logs;
 use ct_judge::{Heard, KeepFault, LineRefused, interact, keep};
-use ct_logs::{MergeFault, Told, Way, merge_form, merge_idle, merge_logs};
+use ct_logs::{MergeFault, Told, Way, merge_form, merge_logs};
 use ct_order::{order_asked, order_logs};
-use ct_streams::{Counted, FileFault, NamedFault};
+use ct_streams::{Counted, FileFault, NamedFault, idle_in};
 use std::io;
 use std::process::ExitCode;
 
@@ -57,29 +59,33 @@ fn refuse_to_write(rt: &HostRuntime, name: &str) -> ExitCode {
 
 // Writes the run of the logs that the words name, and tells what it shows.
 pub(crate) fn merge(rt: &HostRuntime, found: &ArgMatches<'_>) -> Result<(), ExitCode> {
-    let idle = done(rt, merge_idle(found))?;
     let names = found.get_strs("files").unwrap_or(&[]);
     let form = merge_form(found);
     let (alloc, host) = (rt.alloc(), Host::new(rt));
     let mut writer = Counted::new(io::writer(rt));
-    let way = if found.get_flag("follow") {
-        Way::Follow(done(rt, clockwork(rt, idle, names))?)
-    } else if found.get_flag("presume") {
-        Way::Presume
-    } else {
-        Way::Once
+    let way = match pace(rt, found, names)? {
+        Some(pace) => Way::Follow(pace),
+        None if found.get_flag("presume") => Way::Presume,
+        None => Way::Once,
     };
     let ended = merge_logs(alloc, &host, names, form, way, &mut writer);
     end_merge(rt, ended, writer.is_broken())
 }
 
-// What follows the logs in the files of these names.
-fn clockwork<'a>(
+// What follows the logs in the files of these names, where the words ask for that.
+fn pace<'a>(
     rt: &'a HostRuntime,
-    idle: Option<u32>,
+    found: &ArgMatches<'_>,
     names: &[&str],
-) -> Result<Clockwork<'a>, MergeFault> {
-    Ok(Clockwork::new(rt, idle, names)?)
+) -> Result<Option<Clockwork<'a>>, ExitCode> {
+    let idle = done(rt, idle_in(found))?;
+    if !found.get_flag("follow") {
+        return Ok(None);
+    }
+    match Clockwork::new(rt, idle, names) {
+        Ok(pace) => Ok(Some(pace)),
+        Err(_) => Err(refuse(rt, MergeFault::Memory)),
+    }
 }
 
 // Tells what a merged run shows, or why none is written.
@@ -99,9 +105,18 @@ fn end_merge(
 // Judges the logs of any atomic broadcast that the words name.
 pub(crate) fn order(rt: &HostRuntime, found: &ArgMatches<'_>) -> Result<(), ExitCode> {
     let names = found.get_strs("files").unwrap_or(&[]);
-    let (alloc, host) = (rt.alloc(), Host::new(rt));
+    let pace = pace(rt, found, names)?;
+    let asked = order_asked(found);
+    let (alloc, mut files) = (rt.alloc(), ToldFiles::new(rt));
     let mut writer = Counted::new(io::writer(rt));
-    let ended = order_logs(alloc, &host, names, order_asked(found), &mut writer);
-    written(rt, ended, writer.is_broken())?;
+    if found.get_flag("schedule") {
+        let ended = enact_logs(alloc, &files, names, asked, pace, &mut writer);
+        files.clear();
+        written(rt, ended, writer.is_broken())?;
+    } else {
+        let ended = order_logs(alloc, &files, names, asked, pace, &mut writer);
+        files.clear();
+        written(rt, ended, writer.is_broken())?;
+    }
     Ok(())
 }

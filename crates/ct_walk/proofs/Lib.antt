@@ -1,4 +1,3 @@
-pub mod Bound
 pub mod Crashes
 pub mod Cuts
 mod Entries

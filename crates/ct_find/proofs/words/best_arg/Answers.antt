@@ -1,7 +1,7 @@
 use Rattle.std.proofs.Common.{ap, false, ◌∙◌}
 use Rattle.std.proofs.lemmas.Result.{IfOk-weaker}
 use Rattle.clap.specs.Words.{Rule, rule_of}
-use Rattle.ct_walk.proofs.Bound.{bars_rule}
+use Rattle.ct_streams.proofs.Asking.{bars_rule}
 use Rattle.ct_find.proofs.words.best_arg.Goals as goal
 
 pub returns-clause-rule : goal.returns-clause-rule

@@ -9,4 +9,4 @@ returns c =
     let presumed = with_option _ _ _ _ _ c.in_ok-arg-3.ensures c.in_ok-presume.ensures.local kept c.in_ok-presume.ensures.rule in
     let follow = with_option _ _ _ _ _ c.in_ok-arg-4.ensures c.flag-2.ensures.local presumed c.flag-2.ensures.rule in
     IfOk-weaker c.arg-5.result _ _
-    (λ r adds. with_option _ _ _ _ _ adds c.in_ok-idle.ensures.local follow c.in_ok-idle.ensures.rule) c.arg-5.ensures
+    (λ r adds. with_option _ _ _ _ _ adds c.in_ok-idle_option.ensures.local follow c.in_ok-idle_option.ensures.rule) c.arg-5.ensures

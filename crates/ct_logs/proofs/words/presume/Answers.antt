@@ -1,7 +1,7 @@
 use Rattle.std.proofs.Common.{ap, false, ◌∙◌}
 use Rattle.std.proofs.lemmas.Result.{IfOk-weaker}
 use Rattle.clap.specs.Words.{Rule}
-use Rattle.ct_logs.proofs.Asking.{bars_rule}
+use Rattle.ct_streams.proofs.Asking.{bars_rule}
 use Rattle.ct_logs.proofs.words.presume.Goals as goal
 
 pub returns-clause-rule : goal.returns-clause-rule

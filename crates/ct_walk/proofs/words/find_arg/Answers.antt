@@ -1,7 +1,7 @@
 use Rattle.std.proofs.Common.{ap, false, ◌∙◌}
 use Rattle.std.proofs.lemmas.Result.{IfOk-weaker}
 use Rattle.clap.specs.Words.{Rule}
-use Rattle.ct_walk.proofs.Bound.{asks_rule, bars_rule}
+use Rattle.ct_streams.proofs.Asking.{asks_rule, bars_rule}
 use Rattle.ct_walk.proofs.words.find_arg.Goals as goal
 
 pub returns-clause-rule : goal.returns-clause-rule

@@ -1,0 +1,3 @@
+pub mod Enacted
+pub mod Places
+pub mod Written
