@@ -1,5 +1,5 @@
 #!/usr/bin/env python3
-"""Checks what `ct_tool find` and `ct_tool shrink` tell on a terminal, and that ^C ends them at once, with nothing written.
+"""Checks what `ct_tool find`, `shrink` and `order` tell on a terminal, and that ^C ends searches at once, with nothing written.
 
     terminal.py CT_TOOL        the last line is N passed, M failed
 """
@@ -166,9 +166,27 @@ def faults_of_found(tool: str) -> List[str]:
     return wrong + ([] if made.status == 0 and made.output.endswith(b'"version":3}\n') else [f"status {made.status}"])
 
 
+def faults_of_reading(tool: str) -> List[str]:
+    """How much of a log was read is told while it comes slowly, and is gone before the verdict."""
+    wrong = []
+    for last, verdict in [("deliver x", "accepted: 1 log, 1 delivery"),
+                          ("from x", "{} line 2: from x: expected a number of deliveries, 0 to 4294967295")]:
+        with tempfile.TemporaryDirectory() as folder:
+            log = os.path.join(folder, "log")
+            os.mkfifo(log)
+            writer = subprocess.Popen(["sh", "-c", f"(echo broadcast x; sleep 1.4; echo {last}) >{log}"])
+            made = told(["sh", "-c", f"exec {tool} order {log} >&2"], lambda text, seconds: False)
+            writer.wait()
+        shown = re.fullmatch(r"(?:\r0 MB read\x1b\[K)+\r(?:\x1b\[K)+(.*)\r\n", made.text)
+        if shown is None or shown[1] != verdict.format(log):
+            wrong.append(f"told {made.text!r}")
+    return wrong
+
+
 CHECKS = [("a search that is interrupted", faults_of_search), ("the pace of a search", faults_of_pace),
           ("a search on a narrow terminal", faults_of_width), ("trials that are interrupted", faults_of_shrink),
-          ("a quiet search that is interrupted", faults_of_quiet), ("a search that finds", faults_of_found)]
+          ("a quiet search that is interrupted", faults_of_quiet), ("a search that finds", faults_of_found),
+          ("a log that comes slowly", faults_of_reading)]
 
 
 def main() -> int:

@@ -26,7 +26,7 @@ impl<'a> ToldFiles<'a> {
         }
     }
 
-    // Takes the line away that tells of the last file.
+    // Takes the line away that tells of a file which was not read to its end.
     pub(crate) fn clear(&mut self) {
         if let Some(seconds) = self.terminal.due() {
             self.terminal.write(seconds, "");
@@ -47,6 +47,7 @@ impl<'a> Files for ToldFiles<'a> {
                 reader,
                 terminal: Terminal::new(self.rt, false),
                 bytes: 0,
+                is_told: false,
             }),
             Err(fault) => Err(fault),
         }
@@ -59,6 +60,8 @@ pub(crate) struct ToldFile<'a> {
     reader: Counted<Either<StdinLock<'static>, File>>,
     terminal: Terminal<'a>,
     bytes: u64,
+    // A line tells of it.
+    is_told: bool,
 }
 
 impl Source for ToldFile<'_> {
@@ -72,11 +75,22 @@ impl Source for ToldFile<'_> {
     fn read(&mut self, buffer: &mut [u8]) -> Result<usize, Failed> {
         let count = self.reader.read(buffer)?;
         self.bytes = self.bytes.saturating_add(count as u64);
-        if let Some(seconds) = self.terminal.due() {
+        if count == 0 {
+            clear(&self.terminal, &mut self.is_told);
+        } else if let Some(seconds) = self.terminal.due() {
             let bytes = self.bytes;
             self.terminal.write(seconds, Read { bytes });
+            self.is_told = true;
         }
         Ok(count)
+    }
+}
+
+// Takes the line away, where there is one.
+fn clear(terminal: &Terminal<'_>, is_told: &mut bool) {
+    if *is_told {
+        terminal.clear();
+        *is_told = false;
     }
 }
 
