@@ -177,7 +177,7 @@ def faults_of_reading(tool: str) -> List[str]:
             writer = subprocess.Popen(["sh", "-c", f"(echo broadcast x; sleep 1.4; echo {last}) >{log}"])
             made = told(["sh", "-c", f"exec {tool} order {log} >&2"], lambda text, seconds: False)
             writer.wait()
-        shown = re.fullmatch(r"(?:\r0 MB read\x1b\[K)+\r(?:\x1b\[K)+(.*)\r\n", made.text)
+        shown = re.fullmatch(r"(?:\r0 MB read\x1b\[K)+\r\x1b\[K(.*)\r\n(?:\r\x1b\[K)?", made.text)
         if shown is None or shown[1] != verdict.format(log):
             wrong.append(f"told {made.text!r}")
     return wrong
