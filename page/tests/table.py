@@ -207,7 +207,7 @@ def fault_of(page: Page, row: Row) -> str:
     try:
         if callable(row.leaves):
             return "" if row.leaves(page) else f"{row.control}: {row.leaves.__name__}"
-        page.until(lambda: page.run(f"return {row.leaves}"), 5)
+        page.until(lambda: page.run(f"try {{ return {row.leaves} }} catch (_) {{ return false }}"), 5)   # what isn't there yet
         return ""
     except AssertionError:
         return f"{row.control}: {row.leaves}; there is step {page.at()} of {page.lines()[-3:]}, {page.alert()!r}"
