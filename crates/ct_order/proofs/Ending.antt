@@ -13,7 +13,8 @@ use Rattle.ct_order.specs.declared.stop.Stop.TheVariants as stop
 use Rattle.ct_order.specs.declared.stop.Unread.{Unread}
 use Rattle.ct_order.specs.declared.table.Table.{Table}
 use Rattle.ct_order.specs.declared.wrong.Wrong.TheVariants.{NoLog, Refused}
-use Rattle.ct_order.specs.Ending.{AreAtomic, AreNames, AreNoLogs, Contradict, IsOfLines, IsOfNames, IsWrong, LackBroadcast, input_count, input_in}
+use Rattle.ct_order.specs.Ending.{AreAtomic, AreNames, AreNoLogs, Contradict, IsOfLines, IsOfNames, IsWrong}
+use Rattle.ct_order.specs.Ending.{LackBroadcast, input_count, input_in}
 use Rattle.ct_order.specs.Reading.{IsHaltIn, IsReadFrom, are_whole, standings_of}
 use Rattle.ct_order.specs.Taking.{fault_of, said_of}
 use Rattle.ct_order.proofs.Judging.{all_broadcast, has_order, is_unsent_at}

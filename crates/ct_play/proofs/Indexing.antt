@@ -1,6 +1,6 @@
 -- What is noted of envelopes.
-use Rattle.std.proofs.Common.{◌≡◌, ℕ, zero, suc, ◌+◌, ◌<◌, ◌≤◌, Bool, true, false, List, [], ◌∷◌, ◌++◌, length, get_or, Option, Some, refl, sym}
-use Rattle.std.proofs.Common.{ap, ◌∙◌, subst, arith, ◌⊎◌, inl, inr, cond, length-append}
+use Rattle.std.proofs.Common.{◌≡◌, ℕ, zero, suc, ◌+◌, ◌<◌, ◌≤◌, Bool, true, false, List, [], ◌∷◌, ◌++◌, length, get_or, Option, Some}
+use Rattle.std.proofs.Common.{refl, sym, ap, ◌∙◌, subst, arith, ◌⊎◌, inl, inr, cond, length-append}
 use Rattle.std.specs.Prelude.{◌&&◌, option_map, unwrap_or, slice_get}
 use Rattle.std.specs.HashMap.{HashMap, IsEmpty, Updates, get}
 use Rattle.std.proofs.lemmas.Bool.Decides.{nat_tests}
@@ -105,7 +105,8 @@ index_more old new sent before after k e a index is there its up joined = record
 
     last : (b : Address) (t : Bool) → equal.eq a b ≡ t → IsLastTo (is_at sent b) (length after) (unwrap_or (get equal.eq new b) 0)
     last b true same =
-        let at : unwrap_or (get equal.eq new b) 0 ≡ k = ap (λ o. unwrap_or o 0) (up.0 b ∙ ap (λ t. cond t (Some k) (get equal.eq old b)) same) in
+        let at : unwrap_or (get equal.eq new b) 0 ≡ k =
+        ap (λ o. unwrap_or o 0) (up.0 b ∙ ap (λ t. cond t (Some k) (get equal.eq old b)) same) in
         rw at (record { low = omega (arith, more, is); none = λ j above low. absurd (omega (arith, more, is)) })
     last b false other =
         let at : unwrap_or (get equal.eq new b) 0 ≡ unwrap_or (get equal.eq old b) 0 =
@@ -163,8 +164,8 @@ index_kept old new more last before is index = record {
         ap (λ o. is_to a.to (option_map without_value o) && is_carried a.carried (option_map without_value o)) (there k (omega arith))
 
 -- behind a step
-pub index_next : (w v : Rehearsal) (step : Step) (index : Index) → next w.setting (state_of w) step ≡ Some (state_of v) → IsIndexOf w index →
-    IsIndexOf v index
+pub index_next : (w v : Rehearsal) (step : Step) (index : Index) → next w.setting (state_of w) step ≡ Some (state_of v) →
+    IsIndexOf w index → IsIndexOf v index
 index_next w v step index e is =
     let h = next-is w.setting (state_of w) step (state_of v) e in
     index_kept (state_of w).sent (state_of v).sent (envelopes w.setting.members (h.outcome).mail) (get equal.eq index.last)
