@@ -31,19 +31,29 @@ def estimate_text(estimate):
 
 def command_text(command):
     name, first, second = command
-    return f"{name}({first},{second})"
+    return f"{name} {first} {second}"
+
+
+def act_text(entry):
+    """The step without its member, as a schedule has it; an envelope by its serial."""
+    name, _, *rest = entry
+    if name == "submit":
+        rest = [command_text(*rest)]
+    elif name != "choose":
+        rest = [f"#{serial}" for serial in rest]
+    return " ".join([name, *map(str, rest)])
 
 
 def entry_text(entry):
-    return json.dumps(entry, separators=(",", ":"))
+    return f"{entry[1]} {act_text(entry)}"
 
 
 def carried_text(it):
     if "kind" not in it:
         return "not sent"
     if it["kind"] == "Data":
-        return f"Data {it['message']}"
-    text = f"{it['kind']} {it['instance']}/{it['round']}"
+        return f"data {it['message']}"
+    text = f"{it['kind'].lower()} {it['instance']}/{it['round']}"
     if "from" in it:
         text += f" from {it['from']}"
     if "value" in it:
@@ -74,7 +84,7 @@ def acks_text(it):
 def detail_text(it):
     step = it["step"]
     if step == "submit":
-        return f"{it['message']} = {command_text(it['command'])}"
+        return f"{command_text(it['command'])} as {it['message']}"
     if "envelope" in it:
         return envelope_text(it["envelope"])
     if step == "begin":
@@ -113,7 +123,7 @@ def envelope_facts(it):
     place = {"NotSent": f" went to member {envelope['to']}", "StillWaiting": " is in its line"}
     text = envelope_text(envelope) + place.get(it["refusal"], f" to {envelope['to']}")
     if "left" in it:
-        text += f", left in step {it['left']['number']} {entry_text(it['left']['entry'])}"
+        text += f", left in step {it['left']['number']}: {entry_text(it['left']['entry'])}"
     return text
 
 
@@ -136,7 +146,7 @@ def entry_of(it):
 def step_text(it, group):
     if "refusal" in it:
         facts = envelope_facts(it) if "envelope" in it else member_facts(it)
-        return f"{head_text(it)}{entry_text(entry_of(it))}  REFUSED {it['refusal']}: {facts}"
+        return f"{head_text(it)}{act_text(entry_of(it))}  REFUSED {it['refusal']}: {facts}"
     detail = detail_text(it)
     return head_text(it) + (f"{it['step']:9}{detail}" if detail else it["step"]) + sent_text(it["sent"], group)
 

@@ -419,12 +419,12 @@ check_long_texts() {
     check_long 'long answers' "$folder/wanted" "$tool" interact
 
     cp "$folder/record" "$folder/input"
-    seq "$count" | awk '{ printf "%4d   1  submit   1.%d = set(0,7)  -> #%d..%d Data 1.%d to all\n", $1, $1, 3 * $1 - 2, 3 * $1, $1 }' \
+    seq "$count" | awk '{ printf "%4d   1  submit   set 0 7 as 1.%d  -> #%d..%d data 1.%d to all\n", $1, $1, 3 * $1 - 2, 3 * $1, $1 }' \
         >"$folder/wanted"
     check_long 'many lines of steps' "$folder/wanted" "$tool" steps
     seq "$count" | awk -v count="$count" 'BEGIN {
             printf "group 3 majority 2 cells 4 batch 1048560\nsteps %d sent %d posted 0\n", count, 3 * count
-        } { for (p = 1; p <= 3; p++) line[p, $1] = sprintf("  waiting  #%d Data 1.%d, sent by 1", 3 * ($1 - 1) + p, $1) } END {
+        } { for (p = 1; p <= 3; p++) line[p, $1] = sprintf("  waiting  #%d data 1.%d, sent by 1", 3 * ($1 - 1) + p, $1) } END {
             for (p = 1; p <= 3; p++) {
                 printf "member %d up instance 0 idle\n", p
                 for (i = 1; i <= count; i++) print line[p, i]
@@ -473,7 +473,7 @@ check_drawn() {
     drawn=$("$tool" diagram --only consensus <"$folder/input")
     [[ $drawn == *'member 2'* && $drawn != *'<title>'* ]] || wrong+=" steps of messages are there;"
     record 2 1 0 '["receive",1,1],["receive",2,2],["receive",2,4],["receive",1,3]' >"$folder/input"
-    "$tool" diagram --member 2 <"$folder/input" | grep -q "^<path class='data late' .*<title>#3 Data 1.1, sent by 2 to 1 in step 3;" ||
+    "$tool" diagram --member 2 <"$folder/input" | grep -q "^<path class='data late' .*<title>#3 data 1.1, sent by 2 to 1 in step 3;" ||
         wrong+=" an arrow to a member that is left out is not pale, though its receipt changes nothing;"
     "$tool" walk --members 5 --seed 2 --turns 400 --rate 32 --crash 2 >"$folder/input"
     drawn=$("$tool" diagram --to 300 <"$folder/input" | notes_outside)

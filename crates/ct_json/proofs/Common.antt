@@ -10,7 +10,7 @@ pub use Rattle.ct_json.specs.Json.{decision_values, decisions_fields, member_val
 pub use Rattle.ct_json.specs.Json.{messages_value, register_value, table_fields}
 pub use Rattle.ct_json.specs.JsonEnvelopes.{carried_fields, envelope_by, envelope_value, estimate_fields, sender_fields, sent_fields}
 pub use Rattle.ct_json.specs.JsonParts.{heard_fields, heard_if, heard_values, set_value, set_values}
-pub use Rattle.ct_json.specs.JsonState.{enabled_fields, enabled_values, next_steps, refusal_value, refusal_values, refused_fields}
+pub use Rattle.ct_json.specs.JsonState.{refusal_value, refusal_values, refused_fields}
 pub use Rattle.ct_json.specs.JsonState.{waiting_fields, waiting_value}
 pub use Rattle.ct_model.specs.Rehearsal.{Rehearsal, state_of}
 pub use Rattle.ct_model.specs.StepText.{step_entry}
@@ -21,7 +21,6 @@ pub use Rattle.ct_names.specs.MessageText.{message_text}
 pub use Rattle.ct_names.specs.RefusalText.{refusal_text}
 pub use Rattle.ct_names.specs.declared.command.Command.TheVariants.{Set}
 pub use Rattle.ct_records.specs.Values.{command_data, num, step_data}
-pub use Rattle.ct_show.specs.State.{first_choices, next_between}
 pub use Rattle.ct_text.proofs.Pushed.{pushed_last, pushed_more, pushed_str, pushed_value}
 pub use Rattle.ct_text.specs.Shapes.{phase_text}
 pub use Rattle.json.specs.Print.{escape, quoted}

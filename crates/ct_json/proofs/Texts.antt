@@ -1,7 +1,7 @@
 -- Names, messages, refusals and steps are written as the values that they are.
 use Rattle.ct_json.proofs.Common.{◌≡◌, ℕ, List, [], ◌∷◌, ◌++◌, codes, decimal, Option, Some, None, refl, ap, ap₂, ◌∙◌, append_assoc}
-use Rattle.ct_json.proofs.Common.{append-nil, arith, compact_text, Set, message_text, refusal_text, Step, Submit, Suspect, step_entry}
-use Rattle.ct_json.proofs.Common.{command_data, step_data, next_between, phase_text, IsPlain, array_by, next_steps}
+use Rattle.ct_json.proofs.Common.{append-nil, arith, compact_text, Set, message_text, refusal_text, Step, Submit, step_entry}
+use Rattle.ct_json.proofs.Common.{command_data, step_data, phase_text, IsPlain}
 use Rattle.json.proofs.OnLiterals.{json_on_literals}
 use Rattle.ct_names.specs.declared.command.Command.{Command}
 use Rattle.ct_names.specs.declared.limit.Limit.TheVariants.{Submissions}
@@ -45,19 +45,3 @@ pub step_same : (s : Step) → step_text s ≡ compact_text (step_data s)
 unfolding step_text json_on_literals
 step_same (Submit p c) = ap (λ t. codes "[\"submit\"," ++ (decimal p ++ (codes "," ++ (t ++ codes "]")))) (command_same c)
 step_same _ = refl
-
-one_next : (step : Step) → codes "[" ++ (step_text step ++ ([] ++ codes "]")) ≡ compact_text (array_by step_data (step ∷ []))
-one_next step = rw (step_same step) refl
-
-two_texts : (a b : List ℕ) → codes "[" ++ ((a ++ (codes "," ++ (b ++ []))) ++ codes "]") ≡ 91 ∷ (a ++ 44 ∷ (b ++ codes "]"))
-two_texts a b = simp (append_assoc, append-nil)
-
-pub next_same : (own receipt : Option Step) →
-    codes "[" ++ (next_between [] (codes ",") own receipt ++ codes "]") ≡ compact_text (array_by step_data (next_steps own receipt))
-next_same None None = refl
-next_same None (Some step) = one_next step
-next_same (Some (Suspect p)) None = ap (λ t. codes "[" ++ (t ++ codes "]")) (append-nil (step_text (Suspect p))) ∙ one_next (Suspect p)
-next_same (Some (Suspect p)) (Some step) =
-    two_texts (step_text (Suspect p)) (step_text step)
-    ∙ ap₂ (λ t u. 91 ∷ (t ++ 44 ∷ (u ++ codes "]"))) (step_same (Suspect p)) (step_same step)
-next_same (Some step) receipt = ap (λ t. codes "[" ++ (t ++ codes "]")) (append-nil (step_text step)) ∙ one_next step

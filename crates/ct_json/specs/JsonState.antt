@@ -1,13 +1,12 @@
 -- The values that the state of a record is, as JSON: of the whole, and of each member, each with a line feed behind it.
-use Rattle.std.specs.Prelude.{ℕ, List, [], ◌∷◌, ◌++◌, codes, flat_map, is_none, map, if◌then◌else◌, Option, Some, None}
-use Rattle.std.specs.Option.{option_map_or, option_to_list}
+use Rattle.std.specs.Prelude.{ℕ, List, [], ◌∷◌, ◌++◌, codes, flat_map, map}
+use Rattle.std.specs.Option.{option_map_or}
 use Rattle.serde_json.specs.Data.{Data, string}
 use Rattle.ct_names.specs.declared.refusal.Refusal.{Refusal}
 use Rattle.ct_names.specs.Group.{members}
 use Rattle.ct_names.specs.RefusalText.{refusal_text}
-use Rattle.ct_model.specs.Cause.{cause}
 use Rattle.ct_model.specs.declared.step.Step.{Step}
-use Rattle.ct_model.specs.declared.step.Step.TheVariants.{Choose, Suspect}
+use Rattle.ct_model.specs.declared.step.Step.TheVariants.{Choose}
 use Rattle.ct_model.specs.Rehearsal.{Rehearsal, line_of}
 use Rattle.ct_model.specs.State.{at_serial}
 use Rattle.ct_records.specs.Values.{step_data}
@@ -16,7 +15,7 @@ use Rattle.ct_json.specs.Fields.{Field, array_by, array_of, lines_text, object_o
 use Rattle.ct_json.specs.Json.{counts_fields, group_fields, history_fields, standing_fields}
 use Rattle.ct_json.specs.JsonEnvelopes.{envelope_by}
 use Rattle.ct_json.specs.JsonParts.{part_fields}
-use Rattle.ct_show.specs.State.{first_choices, first_receipt, own_steps, told_refusal}
+use Rattle.ct_show.specs.Own.{enabled_steps, first_receipt, next_steps, own_steps, told_refusal}
 
 -- an envelope that waits, and whose step sent it, of the senders by serial
 abbrev pub waiting_value : Rehearsal → List ℕ → ℕ → Data
@@ -28,12 +27,9 @@ waiting_fields w from line = (codes "waiting", array_by (waiting_value w from) l
 
 -- ---- what it may do
 
--- a step that is allowed
-abbrev pub enabled_values : Rehearsal → Step → List Data
-enabled_values w step = if is_none (cause w step) then step_data step ∷ [] else []
-
-unfoldable pub enabled_fields : Rehearsal → List Step → List Field
-enabled_fields w steps = (codes "enabled", array_of (flat_map (enabled_values w) steps)) ∷ []
+-- steps behind a key, as records have them
+abbrev pub steps_at : List ℕ → List Step → List Field
+steps_at key steps = (key, array_by step_data steps) ∷ []
 
 -- a step that is refused, and why
 unfoldable pub refusal_value : Step → Refusal → Data
@@ -49,17 +45,11 @@ refused_fields w steps = (codes "refused", array_of (flat_map (refusal_values w)
 -- its own steps that are allowed, and those that are refused, of the choices its own estimate alone
 unfoldable pub steps_fields : Rehearsal → ℕ → List Field
 steps_fields w p =
-    enabled_fields w (own_steps p (first_choices p w.setting.members)) ++ refused_fields w (own_steps p (Choose p p ∷ []))
+    steps_at (codes "enabled") (enabled_steps w p) ++ refused_fields w (own_steps p (Choose p p ∷ []))
 
--- what a driver does next: a step of the member's own, else the receipt; where that is a suspicion the receipt comes in its
--- place if the detector doesn't suspect
-abbrev pub next_steps : Option Step → Option Step → List Step
-next_steps None receipt = option_to_list receipt
-next_steps (Some (Suspect p)) receipt = Suspect p ∷ option_to_list receipt
-next_steps (Some step) receipt = step ∷ []
-
+-- what a driver does next
 unfoldable pub next_fields : Rehearsal → ℕ → List Field
-next_fields w p = (codes "next", array_by step_data (next_steps (next_local w p) (first_receipt w p (line_of w p)))) ∷ []
+next_fields w p = steps_at (codes "next") (next_steps (next_local w p) (first_receipt w p (line_of w p)))
 
 -- what waits for it, and what it may do
 unfoldable pub chances_fields : Rehearsal → List ℕ → ℕ → List Field

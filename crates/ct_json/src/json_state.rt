@@ -1,22 +1,23 @@
 //! The state that a record leads to, as JSON: an object of the whole, and one of each member, each with a line feed.
 
-ghost use Rattle.std.specs.Prelude.{◌≡◌, [], ◌∷◌, map, is_none, IfOk, OnOk, IsTrue};
+ghost use Rattle.std.specs.Prelude.{◌≡◌, map, IfOk, OnOk, IsTrue};
 ghost use Rattle.serde_json.specs.Written.{compact_text};
 ghost use Rattle.ct_names.specs.Group.{is_member, members};
-ghost use Rattle.ct_model.specs.Cause.{cause};
 ghost use Rattle.ct_model.specs.Rehearsal.{line_of};
 ghost use Rattle.ct_text.specs.Adds.{Adds};
-ghost use Rattle.ct_json.specs.Fields.{fields_text, line_text, lines_text};
-ghost use Rattle.ct_json.specs.JsonState.{chances_fields, enabled_fields, member_value, next_fields, refusal_value, refused_fields};
+ghost use Rattle.ct_json.specs.Fields.{IsPlain, array_by, fields_text, line_text, lines_text};
+ghost use Rattle.ct_records.specs.Values.{step_data};
+ghost use Rattle.ct_json.specs.JsonState.{chances_fields, member_value, next_fields, refusal_value, refused_fields, steps_at};
 ghost use Rattle.ct_json.specs.JsonState.{state_json, steps_fields, waiting_fields, whole_value};
-ghost use Rattle.ct_show.specs.State.{first_choices};
 
 use crate::json_envelopes::push_envelope;
 use crate::json_parts::push_part;
 use crate::report::{push_counts, push_group, push_history, push_standing};
 use ct_model::Step;
 use ct_names::{Member, Refusal, Serial};
-use ct_show::{Traced, first_receipt, own_steps, push_next_between, sender_at, told_refusal};
+use ct_show::{
+    Traced, enabled_steps, first_receipt, next_steps, own_steps, sender_at, told_refusal,
+};
 use ct_text::push_separator;
 use ct_world::World;
 use std::alloc::{AllocError, Global};
@@ -92,7 +93,7 @@ fn push_chances(
 {
     push_waiting(text, world, senders, line)?;
     push_steps(alloc, text, world, member)?;
-    push_next(text, world, member, line)
+    push_next(alloc, text, world, member, line)
 }
 
 // The envelopes of these serials.
@@ -122,8 +123,7 @@ fn push_steps(
 ) -> Result<(), AllocError>
     ensures { OnOk result (Adds text.old text.new (fields_text (steps_fields world.now.rehearsal member))) }
 {
-    let choices = choices(alloc, member, world.group().n())?;
-    push_enabled(text, world, &own_steps(alloc, member, &choices)?)?;
+    push_steps_at(text, "enabled", &enabled_steps(alloc, world, member)?)?;
     push_refused(
         text,
         world,
@@ -131,40 +131,24 @@ fn push_steps(
     )
 }
 
-// Choose with each of the first members.
-fn choices(alloc: Global, member: Member, members: u8) -> Result<Vec<Step>, AllocError>
-    ensures { IfOk result (λ steps. steps.items ≡ first_choices member members) }
+// The steps behind the key, as a record has them.
+fn push_steps_at(text: &mut String, key: &str, steps: &[Step]) -> Result<(), AllocError>
+    requires { IsPlain key.now }
+    ensures { OnOk result (Adds text.old text.new (fields_text (steps_at key.now steps.now))) }
 {
-    let mut steps = Vec::new(alloc);
-    for i in 0..members {
-        steps.push(Step::Choose(member, i + 1))?;
-    }
-    Ok(steps)
+    write!(text, ",\"{key}\":")?;
+    push_entries(text, steps)
 }
 
-// Those of the steps that are allowed.
-fn push_enabled(text: &mut String, world: &World, steps: &[Step]) -> Result<(), AllocError>
-    ensures { OnOk result (Adds text.old text.new (fields_text (enabled_fields world.now.rehearsal steps.now))) }
+fn push_entries(text: &mut String, steps: &[Step]) -> Result<(), AllocError>
+    ensures { OnOk result (Adds text.old text.new (compact_text (array_by step_data steps.now))) }
 {
-    text.push_str(",\"enabled\":[")?;
-    let mut later = false;
-    for step in steps {
-        if is_enabled(world, *step) {
-            push_separator(text, ',', later)?;
-            write!(text, "{step}")?;
-            later = true;
-        }
+    text.push_str("[")?;
+    for (i, step) in steps.iter().enumerate() {
+        push_separator(text, ',', i > 0)?;
+        write!(text, "{step}")?;
     }
     text.push_str("]")
-}
-
-fn is_enabled(world: &World, step: Step) -> bool
-    ensures { result ≡ is_none (cause world.now.rehearsal step) }
-{
-    match world.enabled(&step) {
-        Ok(()) => true,
-        Err(_) => false,
-    }
 }
 
 // Those that are refused, and why.
@@ -190,7 +174,9 @@ fn push_refusal(text: &mut String, step: Step, refusal: Refusal) -> Result<(), A
 }
 
 // What a driver does next at the member, which has this waiting line.
+#[tactic(auto, unfolding(crate::specs::JsonState::next_fields))]
 fn push_next(
+    alloc: Global,
     text: &mut String,
     world: &World,
     member: Member,
@@ -199,13 +185,7 @@ fn push_next(
     requires { line.now ≡ line_of world.now.rehearsal member }
     ensures { OnOk result (Adds text.old text.new (fields_text (next_fields world.now.rehearsal member))) }
 {
-    text.push_str(",\"next\":[")?;
-    push_next_between(
-        text,
-        "",
-        ",",
-        world.next_local(member),
-        first_receipt(world, member, line),
-    )?;
-    text.push_str("]")
+    let receipt = first_receipt(world, member, line);
+    let steps = next_steps(alloc, world.next_local(member), receipt)?;
+    push_steps_at(text, "next", &steps)
 }

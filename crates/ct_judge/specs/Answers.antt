@@ -11,7 +11,7 @@ use Rattle.ct_model.specs.Rehearsal.{Rehearsal, state_of}
 use Rattle.ct_world.specs.Driving.{next_local}
 use Rattle.ct_show.specs.Facts.{member_facts}
 use Rattle.ct_json.specs.Json.{report_json}
-use Rattle.ct_show.specs.State.{first_receipt}
+use Rattle.ct_show.specs.Own.{enabled_steps, first_receipt, next_steps}
 use Rattle.ct_grammar.specs.declared.line.Line.{Line}
 use Rattle.ct_grammar.specs.declared.line.Line.TheVariants.{Play as Plays}
 use Rattle.ct_grammar.specs.declared.play.Play.TheVariants.{Ask}
@@ -25,17 +25,16 @@ use Rattle.ct_judging.specs.Naming.{letter_name, listed}
 use Rattle.ct_judging.specs.Printing.{printed}
 use Rattle.ct_judging.specs.Reading.{misread_text}
 use Rattle.ct_judging.specs.Standing.{Standing}
-use Rattle.ct_judging.specs.Steps.{step_line}
 use Rattle.ct_judging.specs.Telling.{Explained, explained}
 use Rattle.ct_judging.specs.Wording.{numbered}
 use Rattle.ct_judging.specs.declared.misread.Misread.{Misread}
-use Rattle.ct_judge.specs.Steps.{enabled_steps, next_lines}
+use Rattle.ct_judge.specs.Steps.{step_lines}
 
 -- ---- answers to questions
 
 -- the steps that p may take by itself
 unfoldable pub enabled_text : Rehearsal → ℕ → List ℕ
-enabled_text w p = concat (codes "enabled " ∷ listed (step_line w) (enabled_steps w p) ∷ codes "\n" ∷ [])
+enabled_text w p = concat (codes "enabled " ∷ step_lines (codes ", ") w (enabled_steps w p) ∷ codes "\n" ∷ [])
 
 -- the receipt that a turn of p tries, where it is allowed: of the first envelope that waits there and was sent on p's side
 abbrev pub receipt_of : Rehearsal → ℕ → Option ℕ → Option Step
@@ -45,7 +44,8 @@ receipt_of w p (Some k) = first_receipt w p (k ∷ [])
 -- what a driver does next at p
 unfoldable pub next_answer : Played → ℕ → List ℕ
 next_answer w p =
-    concat (codes "next " ∷ next_lines w.rehearsal (next_local w.rehearsal p) (receipt_of w.rehearsal p (first_near w p))
+    concat (codes "next "
+    ∷ step_lines (codes " or ") w.rehearsal (next_steps (next_local w.rehearsal p) (receipt_of w.rehearsal p (first_near w p)))
     ∷ codes "\n" ∷ [])
 
 -- where p stands

@@ -9,7 +9,7 @@ ghost use Rattle.ct_judge.specs.Answers.{record_answer, report_answer, state_ans
 
 use crate::naming::push_letters;
 use crate::printing::push_bytes;
-use crate::steps::{push_enabled_lines, push_next_lines};
+use crate::steps::push_steps;
 use crate::wording::push_number;
 use ct_grammar::Question;
 use ct_json::report_json;
@@ -19,7 +19,7 @@ use ct_names::{
 };
 use ct_play::{Stage, first_near, waiting_at};
 use ct_records::write_record;
-use ct_show::{first_receipt, push_member_facts};
+use ct_show::{enabled_steps, first_receipt, next_steps, push_member_facts};
 use ct_world::World;
 use std::alloc::{AllocError, Global};
 
@@ -64,8 +64,9 @@ pub(crate) fn push_answer(
 fn push_enabled(text: &mut String, stage: &Stage, member: Member) -> Result<(), AllocError>
     ensures { OnOk result (Adds text.old text.new (enabled_text stage.now.rehearsal member)) }
 {
+    let steps = enabled_steps(*text.allocator(), stage.world(), member)?;
     text.push_str("enabled ")?;
-    push_enabled_lines(text, stage, member)?;
+    push_steps(text, stage, ", ", &steps)?;
     text.push_str("\n")
 }
 
@@ -87,13 +88,10 @@ fn push_next(text: &mut String, stage: &Stage, member: Member) -> Result<(), All
     ensures { OnOk result (Adds text.old text.new (next_answer stage.now member)) }
 {
     let world = stage.world();
+    let receipt = receipt_of(world, member, first_near(stage, member));
+    let steps = next_steps(*text.allocator(), world.next_local(member), receipt)?;
     text.push_str("next ")?;
-    push_next_lines(
-        text,
-        stage,
-        world.next_local(member),
-        receipt_of(world, member, first_near(stage, member)),
-    )?;
+    push_steps(text, stage, " or ", &steps)?;
     text.push_str("\n")
 }
 

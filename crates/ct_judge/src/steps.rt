@@ -1,21 +1,17 @@
 //! The lines that steps are.
 
-ghost use Rattle.std.specs.Prelude.{◌≡◌, ◌++◌, OnOk, IfOk, codes, filter, flat_map, is_none};
+ghost use Rattle.std.specs.Prelude.{◌≡◌, ◌++◌, OnOk, flat_map};
 ghost use Rattle.ct_text.specs.Adds.{Adds};
-ghost use Rattle.ct_model.specs.Cause.{cause};
-ghost use Rattle.ct_show.specs.State.{first_choices};
-ghost use Rattle.ct_judging.specs.Naming.{listed};
 ghost use Rattle.ct_judging.specs.Steps.{act_of, named, named_by, step_line};
-ghost use Rattle.ct_judge.specs.Steps.{enabled_steps, line_or_dash, next_lines, receipt_behind};
+ghost use Rattle.ct_judge.specs.Steps.{step_lines};
 
 use ct_grammar::{Act, Line, Pick, Play, Who};
 use ct_model::Step;
 use ct_names::{Member, Serial};
 use ct_play::{Stage, carried_of};
 use ct_print::push_line;
-use ct_show::own_steps;
-use ct_world::{Letter, World};
-use std::alloc::{AllocError, Global};
+use ct_world::Letter;
+use std::alloc::AllocError;
 
 // ---- the line of a step
 
@@ -67,122 +63,38 @@ fn named_by(serial: Serial, letter: Option<Letter>, from: Option<Member>) -> Pic
     }
 }
 
-// ---- those that may be taken
+// ---- several
 
-// Appends the lines of the steps that the member may take by itself, a comma between each two; a dash where there is none.
-pub(crate) fn push_enabled_lines(
+// Appends the lines of the steps, this text between each two; a dash where there is none.
+pub(crate) fn push_steps(
     text: &mut String,
     stage: &Stage,
-    member: Member,
+    between: &str,
+    steps: &[Step],
 ) -> Result<(), AllocError>
-    ensures { OnOk result (Adds text.old text.new
-        (listed (step_line stage.now.rehearsal) (enabled_steps stage.now.rehearsal member))) }
-{
-    let steps = enabled_steps(*text.allocator(), stage.world(), member)?;
-    push_steps(text, stage, &steps)
-}
-
-#[tactic(auto, unfolding(crate::specs::Steps::enabled_steps))]
-fn enabled_steps(alloc: Global, world: &World, member: Member) -> Result<Vec<Step>, AllocError>
-    ensures { IfOk result (λ steps. steps.items ≡ enabled_steps world.now.rehearsal member) }
-{
-    let choices = choices(alloc, member, world.group().n())?;
-    let steps = own_steps(alloc, member, &choices)?;
-    enabled_of(alloc, world, &steps)
-}
-
-// Those of the steps that are allowed.
-fn enabled_of(alloc: Global, world: &World, steps: &[Step]) -> Result<Vec<Step>, AllocError>
-    ensures { IfOk result (λ list. list.items ≡ filter (λ step. is_none (cause world.now.rehearsal step)) steps.now) }
-{
-    steps
-        .iter()
-        .copied()
-        .filter(|step| is_enabled(world, *step))
-        .collect(alloc)
-}
-
-fn is_enabled(world: &World, step: Step) -> bool
-    ensures { result ≡ is_none (cause world.now.rehearsal step) }
-{
-    world.enabled(&step).is_ok()
-}
-
-// Choose with each of so many first members.
-fn choices(alloc: Global, member: Member, count: u8) -> Result<Vec<Step>, AllocError>
-    ensures { IfOk result (λ steps. steps.items ≡ first_choices member count) }
-{
-    let mut steps = Vec::new(alloc);
-    for i in 0..count {
-        steps.push(Step::Choose(member, i + 1))?;
-    }
-    Ok(steps)
-}
-
-fn push_steps(text: &mut String, stage: &Stage, steps: &[Step]) -> Result<(), AllocError>
-    ensures { OnOk result (Adds text.old text.new (listed (step_line stage.now.rehearsal) steps.now)) }
+    ensures { OnOk result (Adds text.old text.new (step_lines between.now stage.now.rehearsal steps.now)) }
 {
     match steps {
         [] => text.push_str("-"),
         [first, rest @ ..] => {
             push_step(text, stage, *first)?;
-            push_more(text, stage, rest)
+            push_more(text, stage, between, rest)
         }
     }
 }
 
-// Each behind a comma.
-fn push_more(text: &mut String, stage: &Stage, steps: &[Step]) -> Result<(), AllocError>
-    ensures { OnOk result (Adds text.old text.new (flat_map (λ step. codes ", " ++ step_line stage.now.rehearsal step) steps.now)) }
+fn push_more(
+    text: &mut String,
+    stage: &Stage,
+    between: &str,
+    steps: &[Step],
+) -> Result<(), AllocError>
+    ensures { OnOk result (Adds text.old text.new
+        (flat_map (λ step. between.now ++ step_line stage.now.rehearsal step) steps.now)) }
 {
     for step in steps {
-        text.push_str(", ")?;
+        text.push_str(between)?;
         push_step(text, stage, *step)?;
     }
     Ok(())
-}
-
-// Appends the line of what a driver does next: a step of the member's own, else the receipt; a suspicion with the receipt that it may
-// come to.
-pub(crate) fn push_next_lines(
-    text: &mut String,
-    stage: &Stage,
-    own: Option<Step>,
-    receipt: Option<Step>,
-) -> Result<(), AllocError>
-    ensures { OnOk result (Adds text.old text.new (next_lines stage.now.rehearsal own receipt)) }
-{
-    match own {
-        None => push_line_or_dash(text, stage, receipt),
-        Some(step) => {
-            push_step(text, stage, step)?;
-            push_receipt_behind(text, stage, step, receipt)
-        }
-    }
-}
-
-fn push_line_or_dash(text: &mut String, stage: &Stage, step: Option<Step>) -> Result<(), AllocError>
-    ensures { OnOk result (Adds text.old text.new (line_or_dash stage.now.rehearsal step)) }
-{
-    match step {
-        None => text.push_str("-"),
-        Some(step) => push_step(text, stage, step),
-    }
-}
-
-fn push_receipt_behind(
-    text: &mut String,
-    stage: &Stage,
-    step: Step,
-    receipt: Option<Step>,
-) -> Result<(), AllocError>
-    ensures { OnOk result (Adds text.old text.new (receipt_behind stage.now.rehearsal step receipt)) }
-{
-    match (step, receipt) {
-        (Step::Suspect(_), Some(receipt)) => {
-            text.push_str(" or ")?;
-            push_step(text, stage, receipt)
-        }
-        _ => Ok(()),
-    }
 }

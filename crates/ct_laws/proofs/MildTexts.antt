@@ -18,7 +18,7 @@ use Rattle.ct_model.specs.declared.wire.Wire.TheVariants.{Data}
 use Rattle.ct_world.specs.Standing.{estimate_by}
 use Rattle.ct_world.specs.World.{if_member, member_of}
 use Rattle.ct_show.specs.Details
-use Rattle.ct_show.specs.Shapes
+use Rattle.ct_show.specs.Acts
 use Rattle.ct_show.specs.Wires
 use Rattle.ct_text.specs.Shapes as pieces
 use Rattle.ct_text.specs.Standing as standing
@@ -94,7 +94,7 @@ unfolding standing.batch_text
 batch_mild w k = set_mild (unwrap_or (option_map (λ b. b.messages) (at_serial (order (state_of w)) k)) [])
 
 pub detail_mild : (w : Rehearsal) (before : ℕ) (step : Step) → IsMild (Details.detail_text w before step)
-unfolding Details.submit_text Shapes.call_text Details.begin_text Details.enter_text Details.coordinator_text Details.choose_text
+unfolding Details.submit_text Acts.command_words Details.begin_text Details.enter_text Details.coordinator_text Details.choose_text
     Details.adopt_text Details.suspect_text Details.conclude_text Details.acks_text Details.decision_text
     Details.delivery_text Details.letter_step
 detail_mild w before (Submit p c) = search (mild_parts, message_in_mild, command_mild) depth 12

@@ -27,8 +27,11 @@ other_rules =
     ∷ option_rule (codes "crash") (codes "0") ∷ option_rule (codes "postpone") (codes "0") ∷ option_rule (codes "lose") (codes "0")
     ∷ option_rule (codes "repeat") (codes "0") ∷ option_rule (codes "batch") (codes "1048560") ∷ []
 
+abbrev pub members_rule : Rule
+members_rule = record (required_rule (codes "members")) { value_names = 1 }
+
 abbrev pub group_rules : List Rule
-group_rules = required_rule (codes "members") ∷ option_rule (codes "turns") (codes "1000") ∷ []
+group_rules = members_rule ∷ option_rule (codes "turns") (codes "1000") ∷ []
 
 -- the options of a free run
 abbrev pub free_rules : List Rule

@@ -1,16 +1,17 @@
 //! The words of a command line.
 
-ghost use Rattle.std.specs.Prelude.{◌≡◌, ℕ, List, [], ◌∷◌, fold, map, codes, unwrap_or, Some, None, Ok, Err, OnOk, IfOk, IfErr};
-ghost use Rattle.clap.specs.Words.{app_of, first_of, found_of, rows_of, subcommand_rows_of, with_rule};
+ghost use Rattle.std.specs.Prelude.{◌≡◌, ℕ, false, List, [], ◌∷◌, fold, map, codes, unwrap_or, Some, None, Ok, Err, OnOk, IfOk, IfErr};
+ghost use Rattle.clap.specs.Words.{app_of, first_of, found_of, rows_of, rule_of, subcommand_rows_of, with_rule};
 ghost use Rattle.ct_streams.specs.Arguments.{option_rule};
 ghost use Rattle.ct_program.specs.FreeOptions.{FreeInRange, InRange};
-ghost use Rattle.ct_program.specs.Line.{program, free_app, free_rules, group_rules, replay_app, seedless_rules, faults_of, call_of};
+ghost use Rattle.ct_program.specs.Line.{program, free_app, free_rules, group_rules, members_rule, replay_app, seedless_rules};
+ghost use Rattle.ct_program.specs.Line.{faults_of, call_of};
 ghost use Rattle.ct_program.specs.Line.{file_in, file_of, options_of, options_with, seedless_of, IsOfKind, IsMemory};
 
 use crate::call::{Asked, Call};
 use crate::free_options::{FreeOptions, MAX_EACH, MAX_RATE, MAX_TURNS};
 use crate::line_fault::LineFault;
-use clap::{ArgMatches, Command};
+use clap::{Arg, ArgMatches, Command};
 use ct_names::{MAX_BOUND, MAX_CELLS, MAX_MEMBERS};
 use ct_streams::{
     WordFault, default_option, file_argument, option_in, required_option, subcommand,
@@ -238,9 +239,16 @@ fn with_group_options<'a>(
 ) -> Result<Command<'a>, AllocError>
     ensures { IfOk result (λ longer. app_of longer ≡ fold with_rule (app_of command.entry) group_rules) }
 {
-    let members = required_option(alloc, "members", "The number of members, 1 to 16");
+    let members = members_arg(alloc);
     let turns = default_option(alloc, "turns", "1000", turns);
     command.arg(members)?.arg(turns)
+}
+
+fn members_arg<'a>(alloc: Global) -> Arg<'a>
+    ensures rule { rule_of result ≡ members_rule }
+    ensures local { result.global ≡ false }
+{
+    required_option(alloc, "members", "The number of members, 1 to 16").value_name("N")
 }
 
 // The command with these options too.

@@ -14,7 +14,7 @@ use Rattle.ct_model.specs.declared.envelope.Envelope.{Envelope}
 use Rattle.ct_model.specs.declared.wire.Wire.{Wire}
 use Rattle.ct_world.specs.Standing.{heard_by, acked_by, replied_by}
 use Rattle.ct_world.specs.World.{member_of, if_member}
-use Rattle.ct_show.specs.Shapes.{call_text}
+use Rattle.ct_show.specs.Acts.{command_words}
 use Rattle.ct_text.specs.Shapes.{estimate_text}
 use Rattle.ct_text.specs.Standing.{batch_text, coordinator_of, estimate_alone, estimate_of, instance_of, round_of}
 use Rattle.ct_show.specs.Wires.{letter_at, round_text, serial_text}
@@ -25,9 +25,9 @@ size_of set = option_map_or length set 0
 
 -- ---- each step
 
--- a message and a sign, where the wire is a message
+-- the message, behind a word, where the wire is one
 abbrev pub message_of : Wire (Unit {0}) → List ℕ
-message_of (Data m) = concat (message_text m ∷ codes " = " ∷ [])
+message_of (Data m) = concat (codes " as " ∷ message_text m ∷ [])
 message_of _ = []
 
 abbrev pub message_in : Option (Envelope (Unit {0})) → List ℕ
@@ -35,7 +35,7 @@ message_in None = []
 message_in (Some e) = message_of e.wire
 
 unfoldable pub submit_text : Rehearsal → ℕ → Command → List ℕ
-submit_text w before c = concat (codes "submit   " ∷ message_in (letter_at w (before + 1)) ∷ call_text c ∷ [])
+submit_text w before c = concat (codes "submit   " ∷ command_words c ∷ message_in (letter_at w (before + 1)) ∷ [])
 
 unfoldable pub begin_text : Rehearsal → ℕ → List ℕ
 begin_text w p = concat (codes "begin    instance " ∷ decimal (instance_of w p) ∷ codes " proposes " ∷ estimate_alone w p ∷ [])

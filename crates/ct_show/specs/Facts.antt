@@ -13,11 +13,11 @@ use Rattle.ct_model.specs.declared.step.Step.{Step}
 use Rattle.ct_model.specs.declared.step.Step.TheVariants.{Receive, Postpone, Lose, Repeat}
 use Rattle.ct_model.specs.declared.wire.Wire.{Wire}
 use Rattle.ct_model.specs.Rehearsal.{Rehearsal, state_of}
-use Rattle.ct_model.specs.StepText.{step_text}
 use Rattle.ct_world.specs.Standing.{acked_by, estimate_by, heard_by, replied_by}
 use Rattle.ct_world.specs.World.{member_of, if_member}
 use Rattle.ct_text.specs.Shapes.{estimate_text, phase_text}
 use Rattle.ct_text.specs.Standing.{coordinator_of, instance_of}
+use Rattle.ct_show.specs.Acts.{act_words, step_words}
 use Rattle.ct_show.specs.Details.{coordinator_text, size_of}
 use Rattle.ct_show.specs.Lines.{head_text}
 use Rattle.ct_show.specs.Wires.{letter_at, value_at, wire_text}
@@ -56,7 +56,7 @@ heard_text before after e = concat (before ∷ decimal e.0 ∷ codes " " ∷ est
 
 -- the step of a number, in which an envelope left its line
 unfoldable pub left_in : ℕ × Step → List ℕ
-left_in t = concat (codes ", left in step " ∷ decimal t.0 ∷ codes " " ∷ step_text t.1 ∷ [])
+left_in t = concat (codes ", left in step " ∷ decimal t.0 ∷ codes ": " ∷ step_words t.1 ∷ [])
 
 abbrev pub left_text : Option (ℕ × Step) → List ℕ
 left_text None = []
@@ -163,5 +163,5 @@ facts_text w step refusal = texts_of (facts_of w step refusal)
 -- the line of a step that is refused after the record
 unfoldable pub refused_text : Rehearsal → ℕ → Step → Refusal → List ℕ
 refused_text w number step refusal =
-    concat (head_text number (actor step) ∷ step_text step ∷ codes "  REFUSED " ∷ refusal_text refusal ∷ codes ": "
+    concat (head_text number (actor step) ∷ act_words step ∷ codes "  REFUSED " ∷ refusal_text refusal ∷ codes ": "
     ∷ facts_text w step refusal ∷ codes "\n" ∷ [])

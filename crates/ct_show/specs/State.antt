@@ -1,29 +1,29 @@
 -- What is shown of the state that a record leads to: two lines of the whole, and lines of each member.
 use Rattle.std.specs.Prelude.{ℕ, zero, suc, List, [], ◌∷◌, ◌++◌, length}
-use Rattle.std.specs.Prelude.{codes, decimal, flat_map, is_none, Option, Some, None, option_map, option_and_then}
-use Rattle.std.specs.Prelude.{Bool, true, false, if◌then◌else◌}
+use Rattle.std.specs.Prelude.{codes, decimal, flat_map, Option, Some, None, option_map}
+use Rattle.std.specs.Prelude.{if◌then◌else◌}
 use Rattle.std.specs.Option.{option_map_or}
 use Rattle.std.specs.List.{concat}
 use Rattle.ct_names.specs.declared.limit.TheConstants.{MAX_MEMBERS}
 use Rattle.ct_names.specs.declared.refusal.Refusal.{Refusal}
-use Rattle.ct_names.specs.declared.refusal.Refusal.TheVariants.{Crashed, Busy, Idle, WrongPhase, NotLargest}
 use Rattle.ct_names.specs.Group.{majority}
 use Rattle.ct_names.specs.RefusalText.{refusal_text}
 use Rattle.ct_names.specs.Value.{Value}
-use Rattle.ct_model.specs.Cause.{cause, order}
+use Rattle.ct_model.specs.Cause.{order}
 use Rattle.ct_model.specs.declared.phase.Phase.{Phase}
 use Rattle.ct_model.specs.declared.step.Step.{Step}
-use Rattle.ct_model.specs.declared.step.Step.TheVariants.{Receive, Begin, Enter, Choose, Adopt, Suspect, Conclude, Deliver, Follow}
+use Rattle.ct_model.specs.declared.step.Step.TheVariants.{Choose}
 use Rattle.ct_model.specs.Rehearsal.{Rehearsal, state_of, line_of}
 use Rattle.ct_model.specs.State.{at_serial, is_crashed}
-use Rattle.ct_model.specs.StepText.{step_text}
 use Rattle.ct_text.specs.Lists.{first_in, list_text}
 use Rattle.ct_world.specs.Driving.{next_local}
 use Rattle.ct_world.specs.Standing.{estimate_by, acked_by, replied_by}
 use Rattle.ct_world.specs.World.{member_of, if_member}
 use Rattle.ct_text.specs.Standing.{coordinator_of, instance_of}
+use Rattle.ct_show.specs.Acts.{step_words}
 use Rattle.ct_show.specs.Facts.Fact.{InRound}
 use Rattle.ct_show.specs.Facts.{fact_text, first_heard, heard_text}
+use Rattle.ct_show.specs.Own.{enabled_steps, first_receipt, next_steps, own_steps, told_refusal}
 use Rattle.ct_text.specs.Shapes.{estimate_text}
 use Rattle.ct_show.specs.Wires.{serial_text}
 
@@ -72,78 +72,28 @@ waiting_line w from k = concat (codes "  waiting  " ∷ serial_text w k ∷ send
 
 -- ---- what it may do
 
--- what is refused so is none of the steps that the member could take next: it has crashed, an instance is open or none is,
--- its phase is another, or another estimate has to be chosen
-abbrev pub is_apart : Refusal → Bool
-is_apart Crashed = true
-is_apart Busy = true
-is_apart Idle = true
-is_apart WrongPhase = true
-is_apart NotLargest = true
-is_apart _ = false
-
--- a step that is allowed, between these texts
-unfoldable pub enabled_text : (before after : List ℕ) → Rehearsal → Step → List ℕ
-enabled_text before after w step = if is_none (cause w step) then concat (before ∷ step_text step ∷ after ∷ []) else []
-
--- why a step is refused, where it is one that the member could take next
-abbrev pub told_refusal : Rehearsal → Step → Option Refusal
-told_refusal w step = option_and_then (λ refusal. if is_apart refusal then None else Some refusal) (cause w step)
+unfoldable pub enabled_line : Step → List ℕ
+enabled_line step = concat (codes "  enabled  " ∷ step_words step ∷ codes "\n" ∷ [])
 
 -- one that is refused, and why
 unfoldable pub refusal_line : Step → Refusal → List ℕ
-refusal_line step refusal = concat (codes "  refused  " ∷ step_text step ∷ codes " " ∷ refusal_text refusal ∷ codes "\n" ∷ [])
+refusal_line step refusal = concat (codes "  refused  " ∷ step_words step ∷ codes " " ∷ refusal_text refusal ∷ codes "\n" ∷ [])
 
 abbrev pub refused_line : Rehearsal → Step → List ℕ
 refused_line w step = option_map_or (refusal_line step) (told_refusal w step) []
 
--- Choose with each of the first members
-abbrev pub first_choices : ℕ → ℕ → List Step
-first_choices p zero = []
-first_choices p (suc k) = first_choices p k ++ Choose p (suc k) ∷ []
-
--- its own steps in the order in which a driver tries them, with these choices
-abbrev pub own_steps : ℕ → List Step → List Step
-own_steps p choices = (Deliver p ∷ Follow p ∷ Begin p ∷ []) ++ choices ++ (Adopt p ∷ Conclude p ∷ Enter p ∷ Suspect p ∷ [])
-
--- those that are allowed, each between these texts
-unfoldable pub own_enabled : (before after : List ℕ) → Rehearsal → ℕ → List ℕ
-own_enabled before after w p = flat_map (enabled_text before after w) (own_steps p (first_choices p w.setting.members))
-
--- the same, and those that are refused, of the choices its own estimate alone
+-- its own steps that are allowed, and those that are refused, of the choices its own estimate alone
 unfoldable pub steps_lines : Rehearsal → ℕ → List ℕ
-steps_lines w p =
-    own_enabled (codes "  enabled  ") (codes "\n") w p
-    ++ flat_map (refused_line w) (own_steps p (Choose p p ∷ []))
+steps_lines w p = flat_map enabled_line (enabled_steps w p) ++ flat_map (refused_line w) (own_steps p (Choose p p ∷ []))
 
--- the receipt of the serial at the front of its line, where it is allowed
-abbrev pub first_receipt : Rehearsal → ℕ → List ℕ → Option Step
-first_receipt w p [] = None
-first_receipt w p (k ∷ line) = if is_none (cause w (Receive p k)) then Some (Receive p k) else None
-
-abbrev pub step_or : List ℕ → Option Step → List ℕ
-step_or none None = none
-step_or none (Some step) = step_text step
-
-abbrev pub behind : List ℕ → Option Step → List ℕ
-behind between None = []
-behind between (Some step) = concat (between ∷ step_text step ∷ [])
-
--- after a suspicion the receipt, which is tried where the failure detector doesn't suspect
-abbrev pub receipt_behind : List ℕ → Step → Option Step → List ℕ
-receipt_behind between (Suspect p) receipt = behind between receipt
-receipt_behind between step receipt = []
-
--- what a driver does next: a step of the member's own, else the receipt; a text that stands for none, and one between two
-abbrev pub next_between : (none between : List ℕ) → Option Step → Option Step → List ℕ
-next_between none between None receipt = step_or none receipt
-next_between none between (Some step) receipt = step_text step ++ receipt_behind between step receipt
-
-abbrev pub next_text : Option Step → Option Step → List ℕ
-next_text own receipt = next_between (codes "-") (codes " or ") own receipt
+-- these steps, the second behind a word; a dash for none
+abbrev pub tried_text : List Step → List ℕ
+tried_text [] = codes "-"
+tried_text (step ∷ steps) = step_words step ++ flat_map (λ other. codes " or " ++ step_words other) steps
 
 unfoldable pub next_line : Rehearsal → ℕ → List ℕ
-next_line w p = concat (codes "  next     " ∷ next_text (next_local w p) (first_receipt w p (line_of w p)) ∷ codes "\n" ∷ [])
+next_line w p =
+    concat (codes "  next     " ∷ tried_text (next_steps (next_local w p) (first_receipt w p (line_of w p))) ∷ codes "\n" ∷ [])
 
 -- ---- all of it
 

@@ -27,13 +27,13 @@ round_text k r = concat (decimal k ∷ codes "/" ∷ decimal r ∷ [])
 
 -- a wire with this value
 unfoldable pub wire_text : Wire (Unit {0}) → Value → List ℕ
-wire_text (Data m) v = concat (codes "Data " ∷ message_text m ∷ [])
+wire_text (Data m) v = concat (codes "data " ∷ message_text m ∷ [])
 wire_text (Est k r p _ t) v =
-    concat (codes "Est " ∷ round_text k r ∷ codes " from " ∷ decimal p ∷ codes " " ∷ set_text v ∷ codes " ts " ∷ decimal t ∷ [])
-wire_text (Prop k r _) v = concat (codes "Prop " ∷ round_text k r ∷ codes " " ∷ set_text v ∷ [])
-wire_text (Ack k r p) v = concat (codes "Ack " ∷ round_text k r ∷ codes " from " ∷ decimal p ∷ [])
-wire_text (Nack k r p) v = concat (codes "Nack " ∷ round_text k r ∷ codes " from " ∷ decimal p ∷ [])
-wire_text (Dec k r _) v = concat (codes "Dec " ∷ round_text k r ∷ codes " " ∷ set_text v ∷ [])
+    concat (codes "est " ∷ round_text k r ∷ codes " from " ∷ decimal p ∷ codes " " ∷ set_text v ∷ codes " ts " ∷ decimal t ∷ [])
+wire_text (Prop k r _) v = concat (codes "prop " ∷ round_text k r ∷ codes " " ∷ set_text v ∷ [])
+wire_text (Ack k r p) v = concat (codes "ack " ∷ round_text k r ∷ codes " from " ∷ decimal p ∷ [])
+wire_text (Nack k r p) v = concat (codes "nack " ∷ round_text k r ∷ codes " from " ∷ decimal p ∷ [])
+wire_text (Dec k r _) v = concat (codes "dec " ∷ round_text k r ∷ codes " " ∷ set_text v ∷ [])
 
 -- what such an envelope carries
 abbrev pub letter_text : Option (Envelope (Unit {0})) → Value → List ℕ

@@ -7,7 +7,7 @@ ghost use Rattle.ct_show.specs.Details.{size_of, message_of, message_in, submit_
 ghost use Rattle.ct_show.specs.Details.{enter_text, choose_text, adopt_text, suspect_text, decision_text};
 ghost use Rattle.ct_show.specs.Details.{acks_text, conclude_text, delivery_text, letter_step, detail_text, letter_of};
 
-use crate::shapes::push_call;
+use crate::acts::push_command;
 use crate::wires::{push_round, push_serial};
 use ct_model::Step;
 use ct_names::{Command, MAX_ENVELOPES, Member, MemberSet, Serial};
@@ -114,7 +114,7 @@ fn push_message_of(text: &mut String, wire: &Wire) -> Result<(), AllocError>
     ensures { OnOk result (Adds text.old text.new (message_of wire.now)) }
 {
     match *wire {
-        Wire::Data(message) => write!(text, "{message} = "),
+        Wire::Data(message) => write!(text, " as {message}"),
         _ => Ok(()),
     }
 }
@@ -130,8 +130,8 @@ fn push_submit(
     ensures { OnOk result (Adds text.old text.new (submit_text world.now.rehearsal before command)) }
 {
     text.push_str("submit   ")?;
-    push_message(text, world.letter(before + 1))?;
-    push_call(text, command)
+    push_command(text, command)?;
+    push_message(text, world.letter(before + 1))
 }
 
 #[tactic(auto, unfolding(crate::specs::Details::begin_text))]

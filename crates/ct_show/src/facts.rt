@@ -8,6 +8,7 @@ ghost use Rattle.ct_show.specs.Facts.Fact.{InRound, Unsent};
 ghost use Rattle.ct_show.specs.Facts.{fact_text, facts_text, first_heard, heard_of, heard_text, last_taking, left_in};
 ghost use Rattle.ct_show.specs.Facts.{left_text, letter_facts, member_facts, part, place, refused_text, returns, takes, taking_or, texts_of};
 
+use crate::acts::{push_act, push_step};
 use crate::details::{push_acks, push_coordinator};
 use crate::lines::push_head;
 use crate::wires::push_wire;
@@ -29,7 +30,8 @@ pub fn push_refused(
     ensures { OnOk result (Adds text.old text.new (refused_text world.now.rehearsal number step refusal)) }
 {
     push_head(text, number, step.member())?;
-    write!(text, "{step}  REFUSED {refusal}: ")?;
+    push_act(text, step)?;
+    write!(text, "  REFUSED {refusal}: ")?;
     push_facts(text, world, step, refusal)?;
     text.push_str("\n")
 }
@@ -117,7 +119,8 @@ fn push_left(text: &mut String, taking: Option<(usize, Step)>) -> Result<(), All
 fn push_left_in(text: &mut String, number: usize, step: Step) -> Result<(), AllocError>
     ensures { OnOk result (Adds text.old text.new (left_in (number, step))) }
 {
-    write!(text, ", left in step {number} {step}")
+    write!(text, ", left in step {number}: ")?;
+    push_step(text, step)
 }
 
 /// The last of the steps that takes the envelope of the serial out of a line, after its number, which counts from 1; none where a

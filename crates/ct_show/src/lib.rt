@@ -1,9 +1,11 @@
 //! What people see of a run.
 #![tactic(auto)]
 
+mod acts;
 mod details;
 mod facts;
 mod lines;
+mod own;
 mod shapes;
 mod state;
 mod traced;
@@ -12,6 +14,7 @@ mod wires;
 pub use details::{LETTERS, OTHER_LETTERS, letter_of, push_detail};
 pub use facts::{last_taking, push_facts, push_member_facts, push_refused};
 pub use lines::push_line;
-pub use state::{first_receipt, own_steps, push_next_between, sender_at, state_text, told_refusal};
+pub use own::{enabled_steps, first_receipt, next_steps, own_steps, told_refusal};
+pub use state::{sender_at, state_text};
 pub use traced::{Traced, trace};
 pub use wires::{push_round, push_serial};

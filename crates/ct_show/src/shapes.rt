@@ -1,10 +1,9 @@
-//! Numbers in columns, and commands, shown.
+//! Numbers in columns, shown.
 
 ghost use Rattle.std.specs.Prelude.{◌≡◌, OnOk};
 ghost use Rattle.ct_text.specs.Adds.{Adds};
-ghost use Rattle.ct_show.specs.Shapes.{call_text, right_text, spaces_before};
+ghost use Rattle.ct_show.specs.Shapes.{right_text, spaces_before};
 
-use ct_names::Command;
 use std::alloc::AllocError;
 
 // A number at the right of a column of four places.
@@ -27,17 +26,5 @@ fn spaces_before(number: usize) -> &'static str
         " "
     } else {
         ""
-    }
-}
-
-// The command, as `set(0,7)`.
-#[tactic(auto, unfolding(crate::specs::Shapes::call_text))]
-pub(crate) fn push_call(text: &mut String, command: Command) -> Result<(), AllocError>
-    ensures { OnOk result (Adds text.old text.new (call_text command)) }
-{
-    match command {
-        Command::Set(register, value) => write!(text, "set({register},{value})"),
-        Command::Add(register, amount) => write!(text, "add({register},{amount})"),
-        Command::Copy(from, to) => write!(text, "copy({from},{to})"),
     }
 }

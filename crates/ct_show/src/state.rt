@@ -1,18 +1,19 @@
 //! The state that a record leads to, shown: two lines of the whole, and lines of each member.
 
-ghost use Rattle.std.specs.Prelude.{◌≡◌, ◌<◌, [], ◌∷◌, IfOk, OnOk, IsTrue, codes, flat_map, option_map};
+ghost use Rattle.std.specs.Prelude.{◌≡◌, ◌++◌, IfOk, OnOk, IsTrue, codes, flat_map, option_map};
 ghost use Rattle.ct_text.specs.Adds.{Adds};
 ghost use Rattle.ct_names.specs.Group.{is_member};
 ghost use Rattle.ct_model.specs.Rehearsal.{line_of};
 ghost use Rattle.ct_model.specs.State.{at_serial};
+ghost use Rattle.ct_show.specs.Acts.{step_words};
 ghost use Rattle.ct_show.specs.State.{progress_text, standing_line, estimate_line, set_line, votes_lines};
-ghost use Rattle.ct_show.specs.State.{sender_text, waiting_line, is_apart, told_refusal, enabled_text, own_enabled, refusal_line};
-ghost use Rattle.ct_show.specs.State.{refused_line};
-ghost use Rattle.ct_show.specs.State.{first_choices, own_steps, steps_lines, first_receipt, step_or, behind, receipt_behind};
-ghost use Rattle.ct_show.specs.State.{next_between, next_line};
+ghost use Rattle.ct_show.specs.State.{sender_text, waiting_line, enabled_line, refusal_line, refused_line, steps_lines, tried_text};
+ghost use Rattle.ct_show.specs.State.{next_line};
 ghost use Rattle.ct_show.specs.State.{member_lines, first_members, group_line, counts_line, state_lines};
 
+use crate::acts::push_step;
 use crate::facts::{push_all_heard, push_place_in};
+use crate::own::{enabled_steps, first_receipt, next_steps, own_steps, told_refusal};
 use crate::traced::Traced;
 use crate::wires::push_serial;
 use ct_model::{Phase, Step};
@@ -211,87 +212,31 @@ fn push_sender(text: &mut String, sender: Option<Member>) -> Result<(), AllocErr
 fn push_steps(text: &mut String, world: &World, member: Member) -> Result<(), AllocError>
     ensures { OnOk result (Adds text.old text.new (steps_lines world.now.rehearsal member)) }
 {
-    push_own_enabled(text, world, member)?;
-    push_refused(text, world, &first_steps(member))?;
-    push_refused(text, world, &[Step::Choose(member, member)])?;
-    push_refused(text, world, &last_steps(member))
+    let alloc = *text.allocator();
+    push_enabled(text, &enabled_steps(alloc, world, member)?)?;
+    push_refused(
+        text,
+        world,
+        &own_steps(alloc, member, &[Step::Choose(member, member)])?,
+    )
 }
 
-// The steps of its own that the member may take, in the order in which a driver tries them.
-#[tactic(auto, unfolding(crate::specs::State::own_enabled))]
-fn push_own_enabled(text: &mut String, world: &World, member: Member) -> Result<(), AllocError>
-    ensures { OnOk result (Adds text.old text.new
-        (own_enabled (codes "  enabled  ") (codes "\n") world.now.rehearsal member)) }
-{
-    push_enabled(text, world, &first_steps(member))?;
-    push_choices(text, world, member)?;
-    push_enabled(text, world, &last_steps(member))
-}
-
-// The steps that a driver tries before a choice.
-fn first_steps(member: Member) -> [Step; 3]
-    ensures { result ≡ Step.Deliver member ∷ Step.Follow member ∷ Step.Begin member ∷ [] }
-{
-    [
-        Step::Deliver(member),
-        Step::Follow(member),
-        Step::Begin(member),
-    ]
-}
-
-// Those that it tries after one.
-fn last_steps(member: Member) -> [Step; 4]
-    ensures { result ≡ Step.Adopt member ∷ Step.Conclude member ∷ Step.Enter member ∷ Step.Suspect member ∷ [] }
-{
-    [
-        Step::Adopt(member),
-        Step::Conclude(member),
-        Step::Enter(member),
-        Step::Suspect(member),
-    ]
-}
-
-/// The member's own steps in the order in which a driver tries them, with these choices.
-pub fn own_steps(alloc: Global, member: Member, choices: &[Step]) -> Result<Vec<Step>, AllocError>
-    ensures { IfOk result (λ steps. steps.items ≡ own_steps member choices.now) }
-{
-    let mut steps = Vec::new(alloc);
-    steps.extend_from_slice(&first_steps(member))?;
-    steps.extend_from_slice(choices)?;
-    steps.extend_from_slice(&last_steps(member))?;
-    Ok(steps)
-}
-
-fn push_choices(text: &mut String, world: &World, member: Member) -> Result<(), AllocError>
-    ensures { OnOk result (Adds text.old text.new (flat_map (enabled_text (codes "  enabled  ") (codes "\n") world.now.rehearsal)
-        (first_choices member world.now.rehearsal.setting.members))) }
-{
-    let n = world.group().n();
-    for i in 0..n {
-        push_if_enabled(text, world, Step::Choose(member, i + 1))?;
-    }
-    Ok(())
-}
-
-// Those of the steps that are allowed.
-fn push_enabled(text: &mut String, world: &World, steps: &[Step]) -> Result<(), AllocError>
-    ensures { OnOk result (Adds text.old text.new
-        (flat_map (enabled_text (codes "  enabled  ") (codes "\n") world.now.rehearsal) steps.now)) }
+fn push_enabled(text: &mut String, steps: &[Step]) -> Result<(), AllocError>
+    ensures { OnOk result (Adds text.old text.new (flat_map enabled_line steps.now)) }
 {
     for step in steps {
-        push_if_enabled(text, world, *step)?;
+        push_enabled_line(text, *step)?;
     }
     Ok(())
 }
 
-#[tactic(auto, unfolding(crate::specs::State::enabled_text))]
-fn push_if_enabled(text: &mut String, world: &World, step: Step) -> Result<(), AllocError>
-    ensures { OnOk result (Adds text.old text.new (enabled_text (codes "  enabled  ") (codes "\n") world.now.rehearsal step)) }
+#[tactic(auto, unfolding(crate::specs::State::enabled_line))]
+fn push_enabled_line(text: &mut String, step: Step) -> Result<(), AllocError>
+    ensures { OnOk result (Adds text.old text.new (enabled_line step)) }
 {
-    match world.enabled(&step) {
-        Ok(()) => write!(text, "  enabled  {step}\n"),
-        Err(_) => Ok(()),
-    }
+    text.push_str("  enabled  ")?;
+    push_step(text, step)?;
+    text.push_str("\n")
 }
 
 // Those of the steps that are refused.
@@ -317,37 +262,9 @@ fn push_if_refused(text: &mut String, world: &World, step: Step) -> Result<(), A
 fn push_refusal(text: &mut String, step: Step, refusal: Refusal) -> Result<(), AllocError>
     ensures { OnOk result (Adds text.old text.new (refusal_line step refusal)) }
 {
-    write!(text, "  refused  {step} {refusal}\n")
-}
-
-/// Why the step is refused, where it is one that the member could take next.
-pub fn told_refusal(world: &World, step: Step) -> Option<Refusal>
-    ensures { result ≡ told_refusal world.now.rehearsal step }
-{
-    match world.enabled(&step) {
-        Ok(()) => None,
-        Err(refusal) => {
-            if is_apart(refusal) {
-                None
-            } else {
-                Some(refusal)
-            }
-        }
-    }
-}
-
-// Whether a step that is refused so is none of those that the member could take next.
-fn is_apart(refusal: Refusal) -> bool
-    ensures { result ≡ is_apart refusal }
-{
-    match refusal {
-        Refusal::Crashed => true,
-        Refusal::Busy => true,
-        Refusal::Idle => true,
-        Refusal::WrongPhase => true,
-        Refusal::NotLargest => true,
-        _ => false,
-    }
+    text.push_str("  refused  ")?;
+    push_step(text, step)?;
+    write!(text, " {refusal}\n")
 }
 
 // What a driver does next at the member, which has this waiting line.
@@ -361,76 +278,31 @@ fn push_next(
     requires { line.now ≡ line_of world.now.rehearsal member }
     ensures { OnOk result (Adds text.old text.new (next_line world.now.rehearsal member)) }
 {
+    let receipt = first_receipt(world, member, line);
+    let steps = next_steps(*text.allocator(), world.next_local(member), receipt)?;
     text.push_str("  next     ")?;
-    push_next_between(
-        text,
-        "-",
-        " or ",
-        world.next_local(member),
-        first_receipt(world, member, line),
-    )?;
+    push_tried(text, &steps)?;
     text.push_str("\n")
 }
 
-/// The receipt of the first serial of the line, where it is allowed.
-pub fn first_receipt(world: &World, member: Member, line: &[Serial]) -> Option<Step>
-    ensures { result ≡ first_receipt world.now.rehearsal member line.now }
+fn push_tried(text: &mut String, steps: &[Step]) -> Result<(), AllocError>
+    ensures { OnOk result (Adds text.old text.new (tried_text steps.now)) }
 {
-    let receipt = Step::Receive(member, *line.first()?);
-    match world.enabled(&receipt) {
-        Ok(()) => Some(receipt),
-        Err(_) => None,
-    }
-}
-
-/// Appends what a driver does next: a step of the member's own, else the receipt; a suspicion with the receipt that it may
-/// come to. A text stands for none, and one between two steps.
-pub fn push_next_between(
-    text: &mut String,
-    none: &str,
-    between: &str,
-    own: Option<Step>,
-    receipt: Option<Step>,
-) -> Result<(), AllocError>
-    ensures { OnOk result (Adds text.old text.new (next_between none.now between.now own receipt)) }
-{
-    match own {
-        None => push_step(text, none, receipt),
-        Some(step) => {
-            write!(text, "{step}")?;
-            push_receipt(text, between, step, receipt)
+    match steps {
+        [] => text.push_str("-"),
+        [first, rest @ ..] => {
+            push_step(text, *first)?;
+            push_others(text, rest)
         }
     }
 }
 
-fn push_step(text: &mut String, none: &str, step: Option<Step>) -> Result<(), AllocError>
-    ensures { OnOk result (Adds text.old text.new (step_or none.now step)) }
+fn push_others(text: &mut String, steps: &[Step]) -> Result<(), AllocError>
+    ensures { OnOk result (Adds text.old text.new (flat_map (λ other. codes " or " ++ step_words other) steps.now)) }
 {
-    match step {
-        None => text.push_str(none),
-        Some(step) => write!(text, "{step}"),
+    for step in steps {
+        text.push_str(" or ")?;
+        push_step(text, *step)?;
     }
-}
-
-fn push_receipt(
-    text: &mut String,
-    between: &str,
-    step: Step,
-    receipt: Option<Step>,
-) -> Result<(), AllocError>
-    ensures { OnOk result (Adds text.old text.new (receipt_behind between.now step receipt)) }
-{
-    match step {
-        Step::Suspect(_) => push_behind(text, between, receipt),
-        _ => Ok(()),
-    }
-}
-
-fn push_behind(text: &mut String, between: &str, step: Option<Step>) -> Result<(), AllocError>
-    ensures { OnOk result (Adds text.old text.new (behind between.now step)) }
-{
-    match step {
-        None => Ok(()),
-        Some(step) => write!(text, "{between}{step}"),
-    }
+    Ok(())
 }

@@ -24,7 +24,7 @@ pub(crate) fn push_wire(text: &mut String, wire: &Wire, value: &[Message]) -> Re
     ensures { OnOk result (Adds text.old text.new (wire_text wire.now value.now)) }
 {
     match *wire {
-        Wire::Data(message) => write!(text, "Data {message}"),
+        Wire::Data(message) => write!(text, "data {message}"),
         Wire::Est {
             instance,
             round,
@@ -32,7 +32,7 @@ pub(crate) fn push_wire(text: &mut String, wire: &Wire, value: &[Message]) -> Re
             ts,
             ..
         } => {
-            write!(text, "Est {instance}/{round} from {from} ")?;
+            write!(text, "est {instance}/{round} from {from} ")?;
             push_set(text, value)?;
             write!(text, " ts {ts}")
         }
@@ -41,25 +41,25 @@ pub(crate) fn push_wire(text: &mut String, wire: &Wire, value: &[Message]) -> Re
             round,
             ..
         } => {
-            write!(text, "Prop {instance}/{round} ")?;
+            write!(text, "prop {instance}/{round} ")?;
             push_set(text, value)
         }
         Wire::Ack {
             instance,
             round,
             from,
-        } => write!(text, "Ack {instance}/{round} from {from}"),
+        } => write!(text, "ack {instance}/{round} from {from}"),
         Wire::Nack {
             instance,
             round,
             from,
-        } => write!(text, "Nack {instance}/{round} from {from}"),
+        } => write!(text, "nack {instance}/{round} from {from}"),
         Wire::Dec {
             instance,
             round,
             ..
         } => {
-            write!(text, "Dec {instance}/{round} ")?;
+            write!(text, "dec {instance}/{round} ")?;
             push_set(text, value)
         }
     }

@@ -3,7 +3,7 @@ use Rattle.std.proofs.lemmas.Option.{cond_some}
 use Rattle.std.proofs.Common.{◌≡◌, ℕ, zero, suc, ◌-◌, ◌≤◌, ◌<◌, ◌^◌, Bool, true, false, List, [], ◌∷◌, ◌++◌, codes, Option, Some, None}
 use Rattle.std.proofs.Common.{length, replicate, refl, sym, ◌∙◌, subst, inl, inr, arith, eq-eqb}
 use Rattle.std.specs.Option.{option_map_or, option_to_list}
-use Rattle.std.specs.Prelude.{◌==◌, find, if◌then◌else◌, is_none, option_and_then, option_map}
+use Rattle.std.specs.Prelude.{◌==◌, filter, find, if◌then◌else◌, is_none, option_and_then, option_map}
 use Rattle.ct_names.specs.declared.command.Command.{Command}
 use Rattle.ct_names.specs.declared.limit.TheConstants.{MAX_ENVELOPES, MAX_ROUNDS}
 use Rattle.ct_names.specs.declared.refusal.Refusal.{Refusal}
@@ -41,14 +41,14 @@ use Rattle.ct_world.specs.Driving.{best_heard, candidates, next_local}
 use Rattle.ct_world.specs.Standing.{estimate_by, heard_by}
 use Rattle.ct_world.specs.World.{if_member, member_of}
 use Rattle.ct_text.specs.Standing.{coordinator_of, round_of}
-use Rattle.ct_show.specs.State.{first_choices, first_receipt, own_steps, told_refusal}
+use Rattle.ct_show.specs.Own.{enabled_steps, first_choices, first_receipt, next_steps, own_steps, told_refusal}
 use Rattle.ct_json.specs.Fields.{items_of}
 use Rattle.ct_json.specs.Json.{counts_fields, group_fields, history_fields, messages_at, standing_fields}
 use Rattle.ct_json.specs.JsonEnvelopes.{carried_fields, envelope_by, estimate_field, estimate_fields, letter_fields, sender_fields}
 use Rattle.ct_json.specs.JsonEnvelopes.{vote_fields, wire_fields}
 use Rattle.ct_json.specs.JsonParts.{heard_fields, heard_if, heard_value, heard_values, led_fields, part_fields, phase_fields, place_fields}
 use Rattle.ct_json.specs.JsonParts.{replies_fields, set_field, set_value, set_values, votes_fields}
-use Rattle.ct_json.specs.JsonState.{chances_fields, enabled_fields, enabled_values, member_value, next_fields, next_steps, refusal_value}
+use Rattle.ct_json.specs.JsonState.{chances_fields, member_value, next_fields, refusal_value}
 use Rattle.ct_json.specs.JsonState.{refusal_values, refused_fields, state_values, steps_fields, waiting_fields, waiting_value, whole_value}
 use Rattle.ct_laws.proofs.Finding.{Each, each_both, each_from, each_map, each_one}
 use Rattle.ct_laws.proofs.Records.{at_in}
@@ -140,10 +140,14 @@ choices_fit n p zero few within low = tt
 choices_fit n p (suc k) few within low =
     each_both StepFits (first_choices p k) (Choose p (suc k) ∷ []) (choices_fit n p k few (omega arith) low) ((low, omega arith), tt)
 
-enabled_mild : (k : ℕ) (b : Bool) (step : Step) → StepFits step →
-    ItemsAreMild (suc (suc k)) (items_of (if b then step_data step ∷ [] else []))
-enabled_mild k true step h = (step_mild k step h, tt)
-enabled_mild k false step h = tt
+kept_one : (b : Bool) (step : Step) (steps : List Step) → StepFits step → Each StepFits steps →
+    Each StepFits (if b then step ∷ steps else steps)
+kept_one true step steps h i = (h, i)
+kept_one false step steps h i = i
+
+kept_fit : (test : Step → Bool) (steps : List Step) → Each StepFits steps → Each StepFits (filter test steps)
+kept_fit test [] h = tt
+kept_fit test (step ∷ steps) h = kept_one (test step) step (filter test steps) h.0 (kept_fit test steps h.1)
 
 refusal_mild : (k : ℕ) (step : Step) (o : Option Refusal) → StepFits step →
     ItemsAreMild (suc (suc (suc k))) (items_of (option_map_or (λ refusal. refusal_value step refusal ∷ []) o []))
@@ -328,13 +332,14 @@ module _ (w : Rehearsal) (h : IsSized w) where
     low = let up : p ≤ n = is.1 in omega (arith, few)
 
     steps_mild : (k : ℕ) → AreMild (suc (suc (suc (suc k)))) (steps_fields w p)
-    unfolding steps_fields enabled_fields refused_fields
+    unfolding steps_fields enabled_steps refused_fields
     steps_mild k =
         let all = own_steps p (first_choices p n) in
         let one = own_steps p (Choose p p ∷ []) in
-        let fit : Each StepFits all = own_fit p (first_choices p n) low (choices_fit n p n few (omega arith) low) in
+        let fit : Each StepFits (enabled_steps w p) =
+        kept_fit (λ step. is_none (cause w step)) all (own_fit p (first_choices p n) low (choices_fit n p n few (omega arith) low)) in
         let own : Each StepFits one = own_fit p (Choose p p ∷ []) low ((low, low), tt) in (
-          mild_flat (suc (suc (suc k))) StepFits (enabled_values w) all fit (λ s fits. enabled_mild (suc k) (is_none (cause w s)) s fits),
+          mild_by (suc (suc (suc k))) StepFits step_data (enabled_steps w p) fit (step_mild (suc k)),
           (
             mild_flat (suc (suc (suc k))) StepFits (refusal_values w) one own (λ s fits. refusal_mild k s (told_refusal w s) fits),
             tt,
