@@ -1,6 +1,6 @@
 -- Names, messages, refusals and steps are written as the values that they are.
-use Rattle.ct_json.proofs.Common.{◌≡◌, ℕ, List, [], ◌∷◌, ◌++◌, codes, decimal, Option, Some, None, refl, ap, ap₂, ◌∙◌, append_assoc}
-use Rattle.ct_json.proofs.Common.{append-nil, arith, compact_text, Set, message_text, refusal_text, Step, Submit, step_entry}
+use Rattle.ct_json.proofs.Common.{◌≡◌, [], ◌++◌, codes, decimal, refl, ap}
+use Rattle.ct_json.proofs.Common.{arith, compact_text, Set, message_text, refusal_text, Step, Submit, step_entry}
 use Rattle.ct_json.proofs.Common.{command_data, step_data, phase_text, IsPlain}
 use Rattle.json.proofs.OnLiterals.{json_on_literals}
 use Rattle.ct_names.specs.declared.command.Command.{Command}

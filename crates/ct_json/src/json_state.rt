@@ -114,7 +114,7 @@ fn push_waiting(
 }
 
 // The steps of its own that the member may take, and those that it may not.
-#[tactic(auto, using(crate::proofs::Fields::pieces), unfolding(crate::specs::JsonState::steps_fields))]
+#[tactic(auto, using(crate::proofs::Fields::pieces), unfolding(crate::specs::JsonState::steps_fields, json::proofs::OnLiterals::json_on_literals))]
 fn push_steps(
     alloc: Global,
     text: &mut String,
@@ -174,7 +174,7 @@ fn push_refusal(text: &mut String, step: Step, refusal: Refusal) -> Result<(), A
 }
 
 // What a driver does next at the member, which has this waiting line.
-#[tactic(auto, unfolding(crate::specs::JsonState::next_fields))]
+#[tactic(auto, unfolding(crate::specs::JsonState::next_fields, json::proofs::OnLiterals::json_on_literals))]
 fn push_next(
     alloc: Global,
     text: &mut String,

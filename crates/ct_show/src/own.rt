@@ -143,7 +143,7 @@ fn push_some(steps: &mut Vec<Step>, step: Option<Step>) -> Result<(), AllocError
 {
     match step {
         None => Ok(()),
-        Some(step) => steps.push(step),
+        Some(step) => Ok(steps.push(step)?),
     }
 }
 

@@ -1,4 +1,4 @@
-use Rattle.ct_json.proofs.Common.{◌+◌, refl, codes, flat_map, string_bytes, drop_all, refusal_value, refusal_values}
+use Rattle.ct_json.proofs.Common.{refl, codes, flat_map, string_bytes, drop_all, refusal_value, refusal_values}
 use Rattle.json.proofs.OnLiterals.{json_on_literals}
 use Rattle.ct_json.specs.JsonState.{refused_fields}
 use Rattle.ct_json.proofs.Left.{field_left, first_step, flat_end, flat_none, flat_one, steps_next}
