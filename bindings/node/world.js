@@ -80,6 +80,7 @@ export class World {
   }
 
   steps(from = 0) {
+    this.mustBeOpen();
     return this.list(STEP_BYTES, stepAt, (room, length) => this.calls.ct_steps(this.at, BigInt(from), room, length));
   }
 
@@ -99,11 +100,13 @@ export class World {
   }
 
   envelope(serial) {
+    this.mustBeOpen();
     this.calls.ct_envelope(this.library.told, this.at, within("serial", serial, 0, MOST));
     return envelopeAt(this.library.now(), Number(this.library.told), serial);
   }
 
   value(serial) {
+    this.mustBeOpen();
     return this.messages((...room) => this.calls.ct_value(this.at, within("serial", serial, 0, MOST), ...room));
   }
 
@@ -137,10 +140,13 @@ export class World {
     return this.library.list(size, element, call);
   }
 
+  mustBeOpen() {
+    if (this.calls.ct_steps(this.at, 0n, 0n, 0n) === -1n) must(NOT_OPEN);
+  }
+
   // The number of a member, of a world that is open.
   own(member) {
-    const isOpen = this.calls.ct_steps(this.at, 0n, 0n, 0n) !== -1n;
-    if (!isOpen) must(NOT_OPEN);
+    this.mustBeOpen();
     return within("member", member, 1, this.members);
   }
 

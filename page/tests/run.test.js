@@ -76,7 +76,10 @@ test("what is closed is refused, as are numbers out of range", () => {
   assert.throws(() => World.ofRecord("{}"), SyntaxError);
   world.close();
   session.close();
-  for (const call of [() => world.apply(["begin", 1]), () => world.table(1), () => session.ask("limits")]) {
+  for (const call of [
+    () => world.apply(["begin", 1]), () => world.table(1), () => world.steps(), () => world.record(), () => world.envelope(1),
+    () => world.value(1), () => session.ask("limits"),
+  ]) {
     assert.throws(call, { code: "NotOpen" });
   }
 });

@@ -52,7 +52,7 @@ BY_NAME = {name: refusal for refusal, name in NAMES.items()}
 
 
 class Refused(Exception):
-    """A step or a line that was refused. Nothing has changed."""
+    """A step or a line that was refused. Nothing has changed, unless it was told `sent`."""
 
 
 class StepRefused(Refused):
