@@ -236,17 +236,22 @@ check_pages() {
     fi
 }
 
-# check_widths: no line of help but the usage is longer than a terminal of 80 columns.
+# check_widths: no line of help or of a man page is longer than a terminal of 80 columns.
 check_widths() {
-    local name wrong='' program_of
+    local name page wrong='' program_of
     for program_of in "$ct" "$tool"; do
         for name in '' $("$program_of" --help | sed -n '/^Commands:/,/^$/s/^  \([^ ][^ ]*\).*/\1/p'); do
             "$program_of" ${name:+"$name"} --help >"$folder/output" 2>"$folder/error"
             [[ -s $folder/output || $name == help ]] || wrong+=" no help of $name;"
-            wrong+=$(awk -v name="$name" 'length > 80 && !/^Usage: / { printf " %s: %s;", name, $0 }' "$folder/output")
+            wrong+=$(awk -v name="$name" 'length > 80 { printf " %s: %s;", name, $0 }' "$folder/output")
         done
     done
-    tally 'the width of help' "$wrong"
+    for page in ../docs/man/*.1; do
+        nroff -man -rLL=80n "$page" | sed 's/\x1b\[[0-9;]*m//g; s/.\x08//g' >"$folder/output"
+        wrong+=$(awk -v name="$page" 'length > 80 { printf " %s: %s;", name, $0 }
+            END { if (NR < 20) printf " no %s;", name }' "$folder/output")
+    done
+    tally 'the width of help and man pages' "$wrong"
 }
 
 # completed WORDS..: what bash offers for the last word of a command line.

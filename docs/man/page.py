@@ -8,6 +8,7 @@ from typing import Iterable
 from reading import HELP, Block, Entry, Help, Program
 
 WIDTH = 79                              # of a line of prose
+COMMAND_WIDTH = 73                      # of a row of an example, which is set in by 7
 ORDER = ("NAME", "SYNOPSIS", "DESCRIPTION", "OPTIONS", "COMMANDS", "EXIT STATUS", "FILES", "EXAMPLES", "NOTES", "SEE ALSO")
 DATE = "DATE"                           # in a program's text, when it was last gone over
 MARKED = re.compile(r"`([^`]+)`|(?<![\w-])(--?[A-Za-z][\w-]*)|\b(\w+)\((\d)\)")
@@ -15,6 +16,7 @@ RAGGED = (".nh", ".ad l")               # no word is parted and no line filled w
 WORD = re.compile(r"<([^<>]+)>|\[([A-Za-z_]+)\]|(--?\w[\w-]*)|(\w[\w-]*)")
 NOTE = re.compile(r"\[((?:default|possible values|alias|aliases|env): [^\]]*)\]")
 STATUS = re.compile(r"Status(?:, (.*))?:")
+COLUMNS = re.compile(r"(\S.*?) {2,}(\S.*)")
 ROW = re.compile(r" +(\d+) {2,}(.*)")
 
 
@@ -79,6 +81,14 @@ def shown(term: str) -> str:
     return WORD.sub(replace, term)
 
 
+def continued(row: str) -> list[str]:
+    """The rows of a command, of which each has a place on a terminal of 80 columns."""
+    if len(row) <= COMMAND_WIDTH:
+        return [row]
+    at = max(found.start() for found in re.finditer(r" (?=[|>]|--)", row) if found.start() < COMMAND_WIDTH - 1)
+    return [row[:at] + " \\", "    " + row[at + 1:]]
+
+
 def verbatim(lines: list[str]) -> list[str]:
     """Lines that stand as they are."""
     rows = textwrap.dedent("\n".join(lines)).split("\n")
@@ -90,9 +100,19 @@ def entry(term: str, text: str) -> list[str]:
     return [".TP", shown(term), *prose(ended(text))]
 
 
+def explained(row: str) -> list[str]:
+    """What may be typed, and what stands beside it."""
+    found = COLUMNS.fullmatch(row)
+    typed, text = found.groups() if found else (row, "")
+    return [".TP", bold(typed), *(prose(text) or ["\\&"])]
+
+
 def block_lines(block: Block) -> list[str]:
     """A paragraph, and below it the lines that it leads to."""
     lines = [".PP", *prose(ended(block.head))]
+    rows = textwrap.dedent("\n".join(block.body)).split("\n")
+    if any(COLUMNS.fullmatch(row) for row in rows):
+        return lines + [line for row in rows for line in explained(row)]
     return lines + [".RS 4", *verbatim(block.body), ".RE"] if block.body else lines
 
 
@@ -216,7 +236,7 @@ def examples_lines(program: Program) -> list[str]:
     lines = []
     for each in helps_of(program):
         for note in filter(is_examples, each.notes):
-            lines += [".PP", *verbatim(note.body)]
+            lines += [".PP", *verbatim([part for row in note.body for part in continued(row.strip())])]
     return lines
 
 
