@@ -433,9 +433,9 @@ check_long_texts() {
             for (p = 1; p <= 3; p++) {
                 printf "member %d up instance 0 idle\n", p
                 for (i = 1; i <= count; i++) print line[p, i]
-                printf "  refused  [\"follow\",%d] Undecided\n", p
-                printf "  refused  [\"begin\",%d] Nothing\n", p
-                printf "  next     [\"receive\",%d,%d]\n", p, p
+                printf "  refused  %d follow Undecided\n", p
+                printf "  refused  %d begin Nothing\n", p
+                printf "  next     %d receive #%d\n", p, p
             }
         }' >"$folder/wanted"
     check_long 'a long state' "$folder/wanted" "$tool" state
