@@ -177,6 +177,29 @@ typedef struct {
     uint8_t from;
 } ct_letter;
 
+/* The phases of a round. */
+enum {
+    CT_REST = 1,   /* no round is running */
+    CT_GATHER = 2, /* the coordinator gathers estimates */
+    CT_WAIT = 3,   /* the coordinator's proposal is awaited */
+    CT_TALLY = 4   /* the coordinator counts replies */
+};
+
+/* Where a member stands; but for `instance`, `member` and `has_crashed` 0 where no instance is open. In a set of members member p is the
+   bit 1 << (p - 1). */
+typedef struct {
+    uint32_t instance;     /* the last one that it began; 0 before the first */
+    uint32_t round;        /* 0 before the first */
+    uint32_t ts;           /* the round in which it took its estimate over; 0: the estimate is its own */
+    uint32_t heard_ts[16]; /* at p - 1 the ts of the estimate that it got of member p for the round; 0 where it got none */
+    uint16_t heard;        /* the members whose estimates it got for the round */
+    uint16_t acked;        /* those whose acks it got for the round */
+    uint16_t replied;      /* those whose acks or nacks it got for the round */
+    uint8_t member;        /* 0: no member, and zeros */
+    uint8_t phase;         /* CT_REST to CT_TALLY */
+    bool has_crashed;
+} ct_standing;
+
 /* What opening a world from a record came to. */
 typedef struct {
     size_t at;        /* the step, counted from 1, that is none or is refused; 0 where it is no step's fault */
@@ -213,6 +236,9 @@ uint32_t ct_enabled(const ct_world *world, uint8_t kind, uint8_t member, uint32_
 /* What a driver does next at the member: the first allowed step of CT_DELIVER, CT_FOLLOW, CT_BEGIN, CT_CHOOSE (of the least member
    that was heard with the largest ts), CT_ADOPT, CT_CONCLUDE, CT_ENTER and CT_SUSPECT. Its kind is 0 where there is none. */
 ct_step ct_next(const ct_world *world, uint8_t member) CT_NONNULL(1);
+
+/* Where the member stands; its member is 0 where it is none of the group's, or the world is closed. */
+ct_standing ct_standing_of(const ct_world *world, uint8_t member) CT_NONNULL(1);
 
 /* The steps of the record from the place `from` on, counted from 0; answers how many there are from there on. */
 size_t ct_steps(const ct_world *world, size_t from, ct_step *room, size_t length) CT_NONNULL(1);

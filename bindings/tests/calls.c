@@ -19,6 +19,14 @@ static void check(const char *what, bool holds) {
 
 static size_t steps_of(const ct_world *world) { return ct_steps(world, 0, NULL, 0); }
 
+/* There is no such member. */
+static bool stands_nowhere(const ct_world *world, uint8_t member) {
+    static const ct_standing nowhere = {0};
+    ct_standing it = ct_standing_of(world, member);
+    return it.instance == 0 && it.round == 0 && it.ts == 0 && memcmp(it.heard_ts, nowhere.heard_ts, sizeof it.heard_ts) == 0 &&
+        it.heard == 0 && it.acked == 0 && it.replied == 0 && it.member == 0 && it.phase == 0 && !it.has_crashed;
+}
+
 /* Each call on a closed world. */
 static void closed_world(ct_world *world, const char *what) {
     ct_message message;
@@ -30,6 +38,7 @@ static void closed_world(ct_world *world, const char *what) {
     check(what, ct_apply(world, CT_CRASH, 1, 0, 0, 0).first == 0 && ct_apply(world, CT_CRASH, 1, 0, 0, 0).count == 0);
     check(what, ct_enabled(world, CT_CRASH, 1, 0, 0, 0) == CT_NOT_OPEN);
     check(what, ct_next(world, 1).kind == 0 && ct_envelope(world, 1).kind == 0);
+    check(what, stands_nowhere(world, 1));
     check(what, ct_steps(world, 0, &step, 1) == CT_NONE && ct_waiting(world, 1, &serial, 1) == CT_NONE);
     check(what, ct_value(world, 1, &message, 1) == CT_NONE && ct_received(world, 1, &message, 1) == CT_NONE);
     check(what, ct_decided(world, 1, 1, &message, 1) == CT_NONE && ct_delivered(world, 1, &message, 1) == CT_NONE);
@@ -98,6 +107,47 @@ static void order(void) {
     ct_world_close(&world);
 }
 
+/* Member 2 of three coordinates the first round, gets all estimates and the acks of 1 and 2, and the nack of 3. */
+static void standing(void) {
+    ct_world world = {0};
+    uint32_t serials[9];
+    check("open", ct_world_open(&world, MEMBERS, CELLS, BOUND) == CT_DONE && stands_nowhere(&world, 0) && stands_nowhere(&world, 4));
+    ct_standing it = ct_standing_of(&world, 2);
+    check("at first", it.member == 2 && it.instance == 0 && it.phase == 0);
+    check("submit", ct_apply(&world, CT_SUBMIT, 1, CT_SET, 0, 7).first == 1);
+    for (uint8_t member = 1; member <= MEMBERS; member++) {
+        check("receive", ct_apply(&world, CT_RECEIVE, member, member, 0, 0).refusal == CT_DONE);
+        check("begin", ct_apply(&world, CT_BEGIN, member, 0, 0, 0).refusal == CT_DONE);
+    }
+    it = ct_standing_of(&world, 2);
+    check("begun", it.instance == 1 && it.round == 0 && it.phase == CT_REST && it.heard == 0);
+    for (uint8_t member = 1; member <= MEMBERS; member++) {
+        check("enter", ct_apply(&world, CT_ENTER, member, 0, 0, 0).refusal == CT_DONE);
+    }
+    check("waiting for the proposal", ct_standing_of(&world, 1).phase == CT_WAIT && ct_standing_of(&world, 1).round == 1);
+    for (size_t count = ct_waiting(&world, 2, serials, 9), i = 0; i < count; i++) {
+        check("receive", ct_apply(&world, CT_RECEIVE, 2, serials[i], 0, 0).refusal == CT_DONE);
+    }
+    it = ct_standing_of(&world, 2);
+    check("gathering", it.phase == CT_GATHER && it.round == 1 && it.ts == 0 && it.heard == 7 && it.heard_ts[2] == 0 && it.replied == 0);
+    ct_effect proposed = ct_apply(&world, CT_CHOOSE, 2, 1, 0, 0);
+    check("choose", proposed.refusal == CT_DONE && proposed.count == MEMBERS);
+    check("suspect", ct_apply(&world, CT_SUSPECT, 3, 0, 0, 0).refusal == CT_DONE);
+    for (uint8_t member = 1; member <= 2; member++) {
+        check("receive", ct_apply(&world, CT_RECEIVE, member, proposed.first + member - 1, 0, 0).refusal == CT_DONE);
+        check("adopt", ct_apply(&world, CT_ADOPT, member, 0, 0, 0).refusal == CT_DONE);
+    }
+    for (size_t count = ct_waiting(&world, 2, serials, 9), i = 0; i < count; i++) {
+        check("receive", ct_apply(&world, CT_RECEIVE, 2, serials[i], 0, 0).refusal == CT_DONE);
+    }
+    it = ct_standing_of(&world, 2);
+    check("tallying", it.phase == CT_TALLY && it.ts == 1 && it.acked == 3 && it.replied == 7 && !it.has_crashed);
+    check("crash", ct_apply(&world, CT_CRASH, 3, 0, 0, 0).refusal == CT_DONE);
+    it = ct_standing_of(&world, 3);
+    check("crashed", it.has_crashed && it.member == 3 && it.phase == CT_REST && it.round == 1 && it.ts == 0);
+    ct_world_close(&world);
+}
+
 static void lengths(void) {
     ct_world world = {0};
     uint32_t serials[4] = {9, 9, 9, 9};
@@ -139,6 +189,7 @@ static void nothing(void) {
     ct_world world = {0};
     ct_session session = {0};
     check("a constant", ct_enabled(&never, CT_CRASH, 1, 0, 0, 0) == CT_NOT_OPEN && ct_next(&never, 1).kind == 0);
+    check("a constant", stands_nowhere(&never, 1));
     check("a constant", steps_of(&never) == CT_NONE && ct_waiting(&never, 1, NULL, 0) == CT_NONE && ct_envelope(&never, 1).kind == 0);
     check("a constant", ct_value(&never, 1, NULL, 0) == CT_NONE && ct_received(&never, 1, NULL, 0) == CT_NONE);
     check("a constant", ct_decided(&never, 1, 1, NULL, 0) == CT_NONE && ct_delivered(&never, 1, NULL, 0) == CT_NONE);
@@ -262,6 +313,7 @@ int main(void) {
     check("the version", ct_version() == CT_VERSION_NUMBER);
     setups();
     order();
+    standing();
     lengths();
     nothing();
     records();

@@ -14,6 +14,7 @@ static void steps(ct_world *world, int turns) {
         for (uint8_t member = 1; member <= 3; member++) {
             ct_step step = ct_next(world, member);
             uint32_t serial;
+            ct_standing_of(world, member);
             if (step.kind != 0) {
                 ct_apply(world, step.kind, member, step.a, step.b, step.c);
             } else if (ct_waiting(world, member, &serial, 1) > 0) {

@@ -22,7 +22,8 @@ CAUSES = set(range(1, 25))
 STATUSES = "DONE", "OUT_OF_MEMORY", "BOARD", "NOT_OPEN", "BAD_SETUP", "NO_WORLD", "TOO_LONG"
 CRATE = "../../crates/ct_embed"
 KINDS = {"StepCodes": r"step_code \((\w+) .*\) = \w*code (\d+) ", "MessageCodes": r"told_code .* \((\w+) .*command = (\d+)",
-         "LetterCodes": r"wire_code to \((\w+) .*vote_code (\d+) "}   # how definitions have the numbers of steps, commands and envelopes
+         "LetterCodes": r"wire_code to \((\w+) .*vote_code (\d+) ",   # how definitions have the numbers of steps, commands, envelopes
+         "StandingCodes": r"phase_code (\w+) = (\d+)"}                 # and phases
 
 
 def text(path: str) -> str:
@@ -41,7 +42,7 @@ def of_header() -> Dict[int, str]:
 
 
 def enums() -> List[str]:
-    """Those of the header: what calls answer, and the kinds of steps, commands and envelopes."""
+    """Those of the header: what calls answer, and the kinds of steps, commands, envelopes and phases."""
     return re.findall(r"\nenum \{\n(.*?)\n\};", text("../ct.h"), re.DOTALL)
 
 

@@ -75,6 +75,7 @@ static bool turns(ct_world *world) {
         for (uint8_t member = 1; member <= 3; member++) {
             ct_step next = ct_next(world, member);
             uint32_t serial;
+            good = good && ct_standing_of(world, member).member == member;
             if (next.kind != 0 && next.kind != CT_SUSPECT) {
                 good = good && step(world, next.kind, member, next.a, next.b, next.c);
             } else if (ct_waiting(world, member, &serial, 1) > 0) {

@@ -8,5 +8,6 @@ pub mod Records
 pub mod RefusalNumbers
 pub mod Rooms
 pub mod Seen
+pub mod StandingCodes
 pub mod StepCodes
 pub mod Telling

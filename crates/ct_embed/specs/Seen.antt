@@ -5,7 +5,7 @@ use Rattle.ct_model.specs.Mapped.{without_value}
 use Rattle.ct_model.specs.Received.{decided, received_by}
 use Rattle.ct_model.specs.Rehearsal.{Rehearsal, state_of, line_of}
 use Rattle.ct_model.specs.declared.step.Step.{Step}
-use Rattle.ct_model.specs.State.{delivered, at_serial}
+use Rattle.ct_model.specs.State.{Member, delivered, at_serial}
 use Rattle.ct_model.specs.declared.envelope.Envelope.{Envelope}
 use Rattle.ct_model.specs.Wire.{value_of}
 use Rattle.ct_table.specs.Table.{table}
@@ -21,6 +21,10 @@ seen false x = None
 -- the steps of its record from a place on
 abbrev pub steps_in : Option Rehearsal → ℕ → Option (List Step)
 steps_in w from = option_map (λ r. drop from r.steps) w
+
+-- the state of a member
+abbrev pub member_in : Option Rehearsal → ℕ → Option Member
+member_in w p = option_and_then (λ r. of_member r p (member_of r p)) w
 
 -- what waits at a member
 abbrev pub waiting_in : Option Rehearsal → ℕ → Option (List ℕ)

@@ -15,8 +15,10 @@ ghost use Rattle.ct_embed.specs.MessageCodes.{message_code};
 ghost use Rattle.ct_embed.specs.RefusalNumbers.{verdict_number};
 ghost use Rattle.ct_embed.specs.Rooms.{count_of, filled};
 ghost use Rattle.ct_embed.specs.Held.{world_in};
-ghost use Rattle.ct_embed.specs.Seen.{steps_in, waiting_in, envelope_in, value_in, received_in, delivered_in, decided_in, table_in};
+ghost use Rattle.ct_embed.specs.Seen.{steps_in, member_in, waiting_in, envelope_in, value_in};
+ghost use Rattle.ct_embed.specs.Seen.{received_in, delivered_in, decided_in, table_in};
 ghost use Rattle.ct_embed.specs.Opening.{IsBadSetup, IsNumber};
+ghost use Rattle.ct_embed.specs.StandingCodes.{standing_code};
 ghost use Rattle.ct_embed.specs.StepCodes.{code, next_code, step_code, step_of};
 
 use crate::applied::Applied;
@@ -27,6 +29,7 @@ use crate::numbers::{ALREADY_OPEN, BAD_SETUP, BAD_STEP, BOARD, NOT_OPEN, OUT_OF_
 use crate::own_world::OwnWorld;
 use crate::refusal_number::refusal_number;
 use crate::room::{NONE, copy_messages, copy_serials, copy_steps, copy_table};
+use crate::standing_code::StandingCode;
 use crate::step_code::StepCode;
 use ct_names::Group;
 use ct_world::Setup;
@@ -220,6 +223,20 @@ pub extern "C" fn ct_next(world: &mut HeldWorld, member: u8, alloc: Global) -> S
         None => StepCode::none(),
         Some(step) => StepCode::of(&step),
     };
+    world.put(own);
+    code
+}
+
+/// Where a member stands.
+#[unsafe(no_mangle)]
+pub extern "C" fn ct_standing_of(world: &mut HeldWorld, member: u8, alloc: Global) -> StandingCode
+    ensures value { result ≡ standing_code member (member_in (world_in world.old) member) }
+    ensures same { world_in world.new ≡ world_in world.old }
+{
+    let Some(own) = world.take(alloc) else {
+        return StandingCode::none();
+    };
+    let code = StandingCode::of(own.world(), member);
     world.put(own);
     code
 }

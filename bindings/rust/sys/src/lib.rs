@@ -72,6 +72,21 @@ pub struct Letter {
     pub from: u8,
 }
 
+#[repr(C)]
+#[derive(Clone, Copy, Default)]
+pub struct Standing {
+    pub instance: u32,
+    pub round: u32,
+    pub ts: u32,
+    pub heard_ts: [u32; 16],
+    pub heard: u16,
+    pub acked: u16,
+    pub replied: u16,
+    pub member: u8,
+    pub phase: u8,
+    pub has_crashed: bool,
+}
+
 extern "C" {
     pub fn ct_world_open(world: *mut Handle, members: u8, cells: u16, bound: u32) -> u32;
     pub fn ct_open_record(world: *mut Handle, text: *const u8, length: usize) -> Opened;
@@ -80,6 +95,7 @@ extern "C" {
     pub fn ct_apply(world: *mut Handle, kind: u8, member: u8, a: u32, b: u8, c: u64) -> Effect;
     pub fn ct_enabled(world: *mut Handle, kind: u8, member: u8, a: u32, b: u8, c: u64) -> u32;
     pub fn ct_next(world: *mut Handle, member: u8) -> Step;
+    pub fn ct_standing_of(world: *mut Handle, member: u8) -> Standing;
     pub fn ct_steps(world: *mut Handle, from: usize, room: *mut Step, length: usize) -> usize;
     pub fn ct_waiting(world: *mut Handle, member: u8, room: *mut u32, length: usize) -> usize;
     pub fn ct_envelope(world: *mut Handle, serial: u32) -> Letter;
