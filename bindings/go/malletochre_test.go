@@ -7,6 +7,7 @@ import (
 	"io"
 	"math/rand"
 	"os"
+	"reflect"
 	"strings"
 	"testing"
 	"time"
@@ -87,6 +88,40 @@ func TestReplicasOnRandomSchedules(t *testing.T) {
 	}
 }
 
+// Member 2 coordinates round 1, and hears itself.
+func TestStanding(t *testing.T) {
+	world, err := Open(3, 4, MaxBound)
+	if err != nil {
+		t.Fatal(err)
+	}
+	defer world.Close()
+	stands := func(wanted Standing) {
+		t.Helper()
+		if standing, err := world.Standing(2); err != nil || !reflect.DeepEqual(standing, wanted) {
+			t.Fatalf("%+v %v, not %+v", standing, err, wanted)
+		}
+	}
+	none := Standing{Heard: map[uint8]uint32{}, Acked: []uint8{}, Replied: []uint8{}}
+	stands(none)
+	do(t, world, Step{Kind: Submit, Member: 2, Command: Command{Kind: Set, Value: 7}})
+	do(t, world, Step{Kind: Receive, Member: 2, Serial: 2})
+	do(t, world, Step{Kind: Begin, Member: 2})
+	begun := none
+	begun.Instance, begun.Phase = 1, Rest
+	stands(begun)
+	estimate, _, err := world.Apply(Step{Kind: Enter, Member: 2})
+	if err != nil {
+		t.Fatal(err)
+	}
+	do(t, world, Step{Kind: Receive, Member: 2, Serial: estimate})
+	heard := begun
+	heard.Round, heard.Phase, heard.Heard = 1, Gather, map[uint8]uint32{2: 0}
+	stands(heard)
+	if _, err := world.Standing(4); err != NoSuchMember {
+		t.Fatal(err)
+	}
+}
+
 func TestWrongUses(t *testing.T) {
 	if _, err := Open(17, 4, MaxBound); err != BadSetup {
 		t.Fatal(err)
@@ -126,6 +161,7 @@ func asked(world *World) error {
 	_, _, apply := world.Apply(Step{Kind: Crash, Member: 1})
 	_, crashed := world.HasCrashed(1)
 	_, next := world.Next(1)
+	_, standing := world.Standing(1)
 	_, envelope := world.Envelope(1)
 	_, steps := world.Steps()
 	_, value := world.Value(1)
@@ -136,8 +172,8 @@ func asked(world *World) error {
 	_, table := world.Table(1)
 	_, record := world.Record()
 	_, other := world.Copy()
-	for i, err := range []error{apply, world.Enabled(Step{Kind: Crash, Member: 1}), crashed, next, envelope, steps, value, waiting, received,
-		decided, delivered, table, record, other} {
+	for i, err := range []error{apply, world.Enabled(Step{Kind: Crash, Member: 1}), crashed, next, standing, envelope, steps, value, waiting,
+		received, decided, delivered, table, record, other} {
 		if err != NotOpen {
 			return fmt.Errorf("call %d: %v", i, err)
 		}

@@ -35,6 +35,18 @@ export type Envelope = { serial: number; to: number } & (
   | { kind: "ack" | "nack"; instance: number; round: number; from: number }
   | { kind: "prop" | "dec"; instance: number; round: number });
 
+/** Where a member stands: `instance` is the last one that it began, 0 before the first; while none is open, `phase` is null, `round` and
+ *  `ts` are 0, and the lists empty. `round` is that of the open instance, 0 before the first; `ts` the round in which it took its estimate
+ *  over, 0 where that is its own; `heard` has the members whose estimates it got for the round, `acked` those whose acks, `replied` those
+ *  whose acks or nacks. */
+export interface Standing {
+  instance: number; round: number; phase: Phase | null; ts: number;
+  heard: { member: number; ts: number }[]; acked: number[]; replied: number[]; hasCrashed: boolean;
+}
+
+/** No round is running; the coordinator gathers estimates; its proposal is awaited; it counts replies. */
+export type Phase = "Rest" | "Gather" | "Wait" | "Tally";
+
 /** A step or a line that was refused. Nothing has changed. */
 export class Refused extends Error { refusal: Refusal | null }
 export class StepRefused extends Refused { step: Step; member: number; refusal: Refusal }
@@ -66,6 +78,8 @@ export class World {
   /** What a driver does next at the member: the first allowed step of deliver, follow, begin, choose (of the least member that was heard
    *  with the largest ts), adopt, conclude, enter and suspect. */
   next(member: number): Step | null;
+  /** Where the member stands. */
+  standing(member: number): Standing;
   /** The steps so far, from a place on, counted from 0. */
   steps(from?: number): Step[];
   /** The record, as `ct replay` and `ct_tool` read it: JSON. */

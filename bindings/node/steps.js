@@ -4,6 +4,7 @@ export const KINDS = ["", "submit", "receive", "begin", "enter", "choose", "adop
   "postpone", "lose", "repeat"];
 export const COMMANDS = ["", "set", "add", "copy"];
 const WIRES = ["", "data", "est", "prop", "ack", "nack", "dec"];
+const PHASES = [null, "Rest", "Gather", "Wait", "Tally"];
 export const MESSAGE_BYTES = 16;
 export const STEP_BYTES = 16;
 const BY_NAME = new Map(KINDS.map((name, kind) => [name, kind]));
@@ -90,6 +91,25 @@ export function envelopeAt(view, at, serial) {
   if (from) found.from = from;
   if (kind === "est") found.ts = view.getUint32(at + 24, true);
   return found;
+}
+
+// The members of a set, member 1 the lowest bit.
+const membersOf = (bits) => Array.from({ length: 16 }, (_, i) => i + 1).filter((member) => (bits >> (member - 1)) & 1);
+
+// Where a member stands, as it lies in this place.
+export function standingAt(view, at) {
+  const word = (offset) => view.getUint32(at + offset, true);
+  const members = (offset) => membersOf(view.getUint16(at + offset, true));
+  return {
+    instance: word(0),
+    round: word(4),
+    phase: PHASES[view.getUint8(at + 83)],
+    ts: word(8),
+    heard: members(76).map((member) => ({ member, ts: word(8 + 4 * member) })),
+    acked: members(78),
+    replied: members(80),
+    hasCrashed: view.getUint8(at + 84) === 1,
+  };
 }
 
 // A step that was refused, or a line. Nothing has changed.

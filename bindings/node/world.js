@@ -2,7 +2,7 @@
 
 import { Library } from "./library.js";
 import { MESSAGE_BYTES, MOST, STEP_BYTES, StepRefused, must, nameOf, numbersOf, textOf, within } from "./steps.js";
-import { envelopeAt, messageAt, stepAt } from "./steps.js";
+import { envelopeAt, messageAt, standingAt, stepAt } from "./steps.js";
 
 export const MAX_MEMBERS = 16;
 export const MAX_CELLS = 1024;
@@ -77,6 +77,11 @@ export class World {
   next(member) {
     this.calls.ct_next(this.library.told, this.at, this.own(member));
     return stepAt(this.library.now(), Number(this.library.told));
+  }
+
+  standing(member) {
+    this.calls.ct_standing_of(this.library.told, this.at, this.own(member));
+    return standingAt(this.library.now(), Number(this.library.told));
   }
 
   steps(from = 0) {

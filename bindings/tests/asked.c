@@ -6,11 +6,12 @@
 #include <stdlib.h>
 #include <string.h>
 
-enum { REGISTERS = 16, LOOKED_BACK = 150 };
+enum { MEMBERS = 16, REGISTERS = 16, LOOKED_BACK = 150 };
 
 static const char *const names[] = {"-", "submit", "receive", "begin", "enter", "choose", "adopt", "suspect", "conclude", "deliver",
                                     "follow", "crash", "postpone", "lose", "repeat"};
 static const char *const commands[] = {"", "set", "add", "copy"};
+static const char *const phases[] = {"-", "Rest", "Gather", "Wait", "Tally"};
 static const char *const kinds[] = {"-", "data", "est", "prop", "ack", "nack", "dec"};
 
 /* The world that is asked, and the last serial that it sent. */
@@ -69,11 +70,38 @@ static void print_refusal(uint32_t refusal) {
     printf(" %s", refusal == CT_DONE ? "ok" : ct_refusal_name(refusal));
 }
 
+static void print_set(const char *name, uint16_t set) {
+    printf(" %s", name);
+    for (unsigned member = 1; member <= MEMBERS; member++) {
+        if (set >> (member - 1) & 1) {
+            printf(" %u", member);
+        }
+    }
+}
+
+static void print_standing(const ct_standing *it) {
+    printf("stands %" PRIu32 " %" PRIu32 " %s %" PRIu32, it->instance, it->round, phases[it->phase], it->ts);
+    printf("%s heard", it->has_crashed ? " crashed" : "");
+    for (unsigned i = 0; i < MEMBERS; i++) {
+        if (it->heard >> i & 1) {
+            printf(" %u:%" PRIu32, i + 1, it->heard_ts[i]);
+        } else if (it->heard_ts[i] != 0) {
+            printf(" none of %u", i + 1);
+        }
+    }
+    print_set("acked", it->acked);
+    print_set("replied", it->replied);
+    puts("");
+}
+
 static void ask_member(uint8_t member) {
     static const uint8_t own_steps[] = {CT_BEGIN, CT_ENTER, CT_CHOOSE, CT_ADOPT, CT_SUSPECT, CT_CONCLUDE, CT_DELIVER, CT_FOLLOW};
     static const uint32_t instances[] = {0, 1, 2, 3, 4, 5, 256, 257};
     bool has_crashed = ct_enabled(&now.world, CT_CRASH, member, 0, 0, 0) == CT_CRASHED;
-    printf("member %u %s\nnext ", (unsigned)member, has_crashed ? "crashed" : "up");
+    ct_standing standing = ct_standing_of(&now.world, member);
+    printf("member %u %s\n", (unsigned)standing.member, has_crashed ? "crashed" : "up");
+    print_standing(&standing);
+    printf("next ");
     ct_step next = ct_next(&now.world, member);
     print_step(stdout, &next);
     printf("\nmay");

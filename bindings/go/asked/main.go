@@ -60,13 +60,37 @@ func name(err error) string {
 	return err.Error()
 }
 
+func stands(standing it.Standing) string {
+	phase, crashed := "-", ""
+	if standing.Phase != 0 {
+		phase = standing.Phase.String()
+	}
+	if standing.HasCrashed {
+		crashed = " crashed"
+	}
+	var heard, acked, replied strings.Builder
+	for from := uint8(1); from <= it.MaxMembers; from++ {
+		if ts, isThere := standing.Heard[from]; isThere {
+			fmt.Fprintf(&heard, " %d:%d", from, ts)
+		}
+	}
+	for _, from := range standing.Acked {
+		fmt.Fprintf(&acked, " %d", from)
+	}
+	for _, from := range standing.Replied {
+		fmt.Fprintf(&replied, " %d", from)
+	}
+	return fmt.Sprintf("stands %d %d %s %d%s heard%s acked%s replied%s", standing.Instance, standing.Round, phase, standing.Ts, crashed,
+		&heard, &acked, &replied)
+}
+
 func askMember(member uint8) {
 	state := map[bool]string{false: "up", true: "crashed"}[must(world.HasCrashed(member))]
 	next := "-"
 	if step := must(world.Next(member)); step.Kind != 0 {
 		next = step.String()
 	}
-	fmt.Fprintf(out, "member %d %s\nnext %s\nmay", member, state, next)
+	fmt.Fprintf(out, "member %d %s\n%s\nnext %s\nmay", member, state, stands(must(world.Standing(member))), next)
 	for kind := it.Begin; kind <= it.Follow; kind++ {
 		step := it.Step{Kind: kind, Member: member}
 		if kind == it.Choose {

@@ -28,6 +28,12 @@ function stepOf([kind, member, a, b, c]) {
 
 const textOf = (step) => JSON.stringify(step, (_, it) => (typeof it === "bigint" ? Number(it) : it));
 
+function stands({ instance, round, phase, ts, heard, acked, replied, hasCrashed }) {
+  const each = (name, members) => ` ${[name, ...members].join(" ")}`;
+  const place = `stands ${instance} ${round} ${phase ?? "-"} ${ts}${hasCrashed ? " crashed" : ""}`;
+  return place + each("heard", heard.map((it) => `${it.member}:${it.ts}`)) + each("acked", acked) + each("replied", replied);
+}
+
 class Asked {
   constructor(members, cells, bound) {
     this.world = new World(members, { cells, bound });
@@ -38,6 +44,7 @@ class Asked {
     const { world } = this;
     const next = world.next(p);
     print("member", p, world.hasCrashed(p) ? "crashed" : "up");
+    print(stands(world.standing(p)));
     print("next", next ? textOf(next) : "-");
     print("may", ...[3, 4, 5, 6, 7, 8, 9, 10].map((kind) => world.refusal(stepOf([kind, p, 1])) ?? "ok"));
     print(`waiting${world.waiting(p).map((it) => ` ${it.serial}`).join("")}`);

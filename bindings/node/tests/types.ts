@@ -10,10 +10,14 @@ const it: Envelope | null = world.envelope(first);
 const ts: number = it && it.kind === "est" ? it.ts : 0;
 const name: string = it && it.kind === "data" ? it.message.name : "";
 const table: bigint[] = world.table(1);
+const { phase, heard } = world.standing(1);
+const place: string = phase === "Gather" ? heard.map(({ member, ts }) => `${member} ${ts}`).join() : phase ?? "none";
 const answers: string[] = new Session().tellAll(["members 3"]);
 const told: Promise<string> = tool(["walk"], { input: "" }).then(({ status, out }) => `${status}${out}`);
-console.log(version, count, said, ts, name, table, answers, told);
+console.log(version, count, said, ts, name, table, place, answers, told);
 
+// @ts-expect-error: no phase
+world.standing(1).phase = "Begin";
 // @ts-expect-error: a step of no number
 world.apply(["begin", 1, 2]);
 // @ts-expect-error: a step without its serial

@@ -24,6 +24,7 @@ from .envelopes import Ack, Content, Data, Decision, Envelope, Estimate, Message
 from .library import IN_PROCESS
 from .refusal import LineRefused, NoWorld, Refusal, Refused, StepRefused
 from .session import Session
+from .standing import Phase, Standing
 from .steps import (Add, Adopt, Begin, Choose, Command, Conclude, Copy, Crash, Deliver, Enter, Follow, Lose, Postpone, Receive, Repeat,
                     Set, Step, Submit, Suspect)
 from .world import MAX_BOUND, MAX_CELLS, MAX_MEMBERS, World
@@ -32,5 +33,5 @@ __version__ = "0.1.0"
 
 __all__ = ["Ack", "Add", "Adopt", "Begin", "Choose", "Command", "Conclude", "Content", "Copy", "Crash", "Data", "Decision", "Deliver",
            "Enter", "Envelope", "Estimate", "Follow", "IN_PROCESS", "LineRefused", "Lose", "MAX_BOUND", "MAX_CELLS", "MAX_MEMBERS",
-           "Message", "Nack", "NoWorld", "Postpone", "Proposal", "Receive", "Refusal", "Refused", "Repeat", "Session", "Set", "Step",
-           "StepRefused", "Submit", "Suspect", "World"]
+           "Message", "Nack", "NoWorld", "Phase", "Postpone", "Proposal", "Receive", "Refusal", "Refused", "Repeat", "Session", "Set",
+           "Standing", "Step", "StepRefused", "Submit", "Suspect", "World"]

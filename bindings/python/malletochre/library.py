@@ -34,6 +34,11 @@ class Letter(ctypes.Structure):
                 ("to", c_uint8), ("source", c_uint8)]
 
 
+class StandingNumbers(ctypes.Structure):
+    _fields_ = [("instance", c_uint32), ("round", c_uint32), ("ts", c_uint32), ("heard_ts", c_uint32 * 16), ("heard", c_uint16),
+                ("acked", c_uint16), ("replied", c_uint16), ("member", c_uint8), ("phase", c_uint8), ("has_crashed", c_bool)]
+
+
 _AT = POINTER(Handle)
 _STEP = [_AT, c_uint8, c_uint8, c_uint32, c_uint8, c_uint64]
 _CALLS = {
@@ -43,6 +48,7 @@ _CALLS = {
     "ct_apply": (Effect, _STEP),
     "ct_enabled": (c_uint32, _STEP),
     "ct_next": (StepNumbers, [_AT, c_uint8]),
+    "ct_standing_of": (StandingNumbers, [_AT, c_uint8]),
     "ct_steps": (c_size_t, [_AT, c_size_t, POINTER(StepNumbers), c_size_t]),
     "ct_waiting": (c_size_t, [_AT, c_uint8, POINTER(c_uint32), c_size_t]),
     "ct_envelope": (Letter, [_AT, c_uint32]),

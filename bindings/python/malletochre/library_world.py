@@ -7,6 +7,7 @@ from typing import Any, List, Optional, Tuple
 from . import library
 from .envelopes import Ack, Content, Data, Decision, Envelope, Estimate, Message, Nack, Proposal
 from .refusal import Refusal, StepRefused
+from .standing import Phase, Standing
 from .steps import COMMANDS, WORD, Crash, Step, step_of_numbers, within
 
 
@@ -25,6 +26,11 @@ def _content(it: library.Letter) -> Content:
     if it.kind == 6:
         return Decision(it.instance, it.round)
     return Ack(it.instance, it.round, it.source) if it.kind == 4 else Nack(it.instance, it.round, it.source)
+
+
+def _members(bits: int) -> List[int]:
+    """The members of a set, member 1 the lowest bit."""
+    return [at + 1 for at in range(bits.bit_length()) if bits >> at & 1]
 
 
 class LibraryWorld:
@@ -73,6 +79,13 @@ class LibraryWorld:
         self._look()
         it = library.call("ct_next")(self._at, member)
         return step_of_numbers(it.kind, it.member, it.a, it.b, it.c) if it.kind else None
+
+    def standing(self, member: int) -> Standing:
+        self._look()
+        it = library.call("ct_standing_of")(self._at, member)
+        heard = {p: it.heard_ts[p - 1] for p in _members(it.heard)}
+        return Standing(it.instance, it.round, Phase(it.phase) if it.phase else None, it.ts, heard, frozenset(_members(it.acked)),
+                        frozenset(_members(it.replied)), it.has_crashed)
 
     def steps(self) -> List[Step]:
         steps = self._list("ct_steps", library.StepNumbers, 0)

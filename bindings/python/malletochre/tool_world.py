@@ -8,6 +8,7 @@ from typing import Any, Dict, List, Optional, Tuple
 from . import tool
 from .envelopes import Ack, Content, Data, Decision, Envelope, Estimate, Message, Nack, Proposal
 from .refusal import BY_NAME, Refusal, StepRefused
+from .standing import Phase, Standing
 from .steps import WORD, Command, Crash, Receive, Repeat, Postpone, Lose, Step, Submit, step_of_words, within
 
 
@@ -55,6 +56,7 @@ class ToolWorld:
         self._letters: Dict[int, Dict[str, Any]] = {}          # what `ct_tool steps` told of the envelopes, by serial
         self._told = 0                                         # steps whose envelopes it told
         self._report: Optional[Dict[str, Any]] = None          # the report of these steps, where it was asked for
+        self._states: List[Dict[str, Any]] = []                # the members' states after them, where they were
         for line in (f"members {members}", f"cells {cells}", f"batch {bound}"):
             self._pipe.ask(line)
 
@@ -71,6 +73,7 @@ class ToolWorld:
             self._commands[step.member, self._submitted[step.member]] = step.command
         self._steps.append(step)
         self._report = None
+        self._states = []
         return sent
 
     def refusal(self, step: Step) -> Optional[Refusal]:
@@ -86,6 +89,18 @@ class ToolWorld:
     def next(self, member: int) -> Optional[Step]:
         line = self._pipe.ask(f"next {member}").partition(" ")[2].partition(" or ")[0]
         return None if line == "-" or " receive " in line else step_of_words(line.split(" "))
+
+    def standing(self, member: int) -> Standing:
+        self._pipe.look()
+        if not self._states:
+            told = tool.output(self._pipe.tool, ["state", "--json"], self._record())
+            self._states = [json.loads(line) for line in told.splitlines()[1:]]
+        it = self._states[member - 1]
+        if not it["open"]:
+            return Standing(it["instance"], 0, None, 0, {}, frozenset(), frozenset(), not it["up"])
+        heard = {its["member"]: its["timestamp"] for its in it["heard"]}
+        return Standing(it["instance"], it["round"], Phase[it["phase"].upper()], it["estimate"]["timestamp"], heard, frozenset(it["acked"]),
+                        frozenset(it["replied"]), not it["up"])
 
     def steps(self) -> List[Step]:
         self._pipe.look()

@@ -9,6 +9,7 @@ from . import library
 from .envelopes import Envelope, Message
 from .library_world import LibraryWorld
 from .refusal import Refusal, Refused
+from .standing import Standing
 from .steps import Step, step_of_record
 from .tool_world import ToolWorld
 
@@ -76,6 +77,10 @@ class World:
         """What a driver does next at the member: the first step that is allowed of Deliver, Follow, Begin, Choose (of the least member
         that was heard with the largest ts), Adopt, Conclude, Enter and Suspect."""
         return self._engine.next(self._own(member))
+
+    def standing(self, member: int) -> Standing:
+        """Where the member stands: its instance, round and phase, the ts of its estimate, and whom it heard."""
+        return self._engine.standing(self._own(member))
 
     def steps(self) -> List[Step]:
         """The steps so far."""

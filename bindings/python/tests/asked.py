@@ -13,7 +13,7 @@ from typing import Callable, Dict, Iterable, List, Optional
 sys.path.insert(0, os.path.join(os.path.dirname(os.path.abspath(__file__)), ".."))
 
 from malletochre import (Ack, Data, Estimate, LineRefused, Message, Nack, NoWorld, Receive, Refusal, Session, Set,   # noqa: E402
-                         StepRefused, Submit, Suspect, World)
+                         Standing, StepRefused, Submit, Suspect, World)
 from malletochre.session import TOO_LONG   # noqa: E402
 from malletochre.steps import step_of_numbers   # noqa: E402
 
@@ -29,6 +29,13 @@ def text(messages: Optional[Iterable[Message]]) -> str:
     return "".join(f" {it}={','.join(map(str, it.command.entry()))}" for it in messages)
 
 
+def stands(it: Standing) -> str:
+    heard = "".join(f" {member}:{ts}" for member, ts in sorted(it.heard.items()))
+    acked, replied = ("".join(f" {member}" for member in sorted(members)) for members in (it.acked, it.replied))
+    place = f"{it.instance} {it.round} {it.phase or '-'} {it.ts}{' crashed' if it.has_crashed else ''}"
+    return f"stands {place} heard{heard} acked{acked} replied{replied}"
+
+
 class Asked:
     """The world that is asked, and the last serial that it sent."""
 
@@ -39,6 +46,7 @@ class Asked:
     def ask_member(self, member: int) -> None:
         world = self.world
         print("member", member, "crashed" if world.has_crashed(member) else "up")
+        print(stands(world.standing(member)))
         step = world.next(member)
         print("next", step.text() if step else "-")
         print("may", *(world.refusal(step_of_numbers(kind, member, int(kind == 5), 0, 0)) or "ok" for kind in OWN_STEPS))

@@ -18,8 +18,8 @@ from typing import Any, Callable, List
 from unittest import mock
 
 import malletochre
-from malletochre import (IN_PROCESS, Add, Begin, Choose, Copy, LineRefused, NoWorld, Receive, Refusal, Session, Set, Step, StepRefused,
-                         Submit, World, library, tool)
+from malletochre import (IN_PROCESS, Add, Begin, Choose, Copy, Enter, LineRefused, NoWorld, Phase, Receive, Refusal, Session, Set, Standing,
+                         Step, StepRefused, Submit, World, library, tool)
 
 PACKAGE = os.path.dirname(malletochre.__file__)
 OF_PROCESS = unittest.skipUnless(IN_PROCESS, "needs libct.so")
@@ -27,7 +27,7 @@ OF_PROCESS = unittest.skipUnless(IN_PROCESS, "needs libct.so")
 
 def calls(world: World) -> List[Callable[[], Any]]:
     """All that may be asked of it."""
-    of_member = (world.next, world.serials, world.waiting, world.received, world.delivered, world.table, world.has_crashed)
+    of_member = (world.next, world.standing, world.serials, world.waiting, world.received, world.delivered, world.table, world.has_crashed)
     asked: List[Callable[[], Any]] = [lambda call=call: call(1) for call in of_member]   # type: ignore[misc]
     return [*asked, lambda: world.apply(Begin(1)), lambda: world.refusal(Begin(1)), lambda: world.enabled(Begin(1)), world.steps,
             world.record, world.copy, lambda: world.envelope(1), lambda: world.value(1), lambda: world.decided(1, 1)]
@@ -45,6 +45,7 @@ class Worlds(unittest.TestCase):
                 self.assertRaises(ValueError, world.refusal, step)
             for member in (0, 3, 257):
                 self.assertRaises(ValueError, world.next, member)
+                self.assertRaises(ValueError, world.standing, member)
                 self.assertRaises(ValueError, world.delivered, member)
             self.assertRaises(ValueError, world.envelope, 2**32)
             self.assertEqual(world.steps(), [])
@@ -59,7 +60,7 @@ class Worlds(unittest.TestCase):
             for step in wrong:
                 self.assertRaises(TypeError, world.apply, step)
                 self.assertRaises(TypeError, world.refusal, step)
-            asked: List[Callable[..., Any]] = [world.next, world.table, world.has_crashed, world.envelope, world.value]
+            asked: List[Callable[..., Any]] = [world.next, world.standing, world.table, world.has_crashed, world.envelope, world.value]
             for call in asked:
                 self.assertRaises(TypeError, call, 1.0)
             self.assertRaises(TypeError, world.decided, 1, 1.0)
@@ -112,6 +113,17 @@ class Worlds(unittest.TestCase):
                 World.of_record(text.replace(old, new))
         self.assertEqual(str(caught.exception), 'step 2: ["receive",2,1]: NotWaiting')
         self.assertIsInstance(caught.exception.__cause__, StepRefused)
+
+    def test_standing(self) -> None:
+        with World(3) as world:
+            self.assertEqual(world.standing(2), Standing(0, 0, None, 0, {}, frozenset(), frozenset(), False))
+            world.apply(Submit(2, Set(0, 7)))
+            world.apply(Receive(2, 2))
+            world.apply(Begin(2))
+            self.assertEqual(world.standing(2), Standing(1, 0, Phase.REST, 0, {}, frozenset(), frozenset(), False))
+            world.apply(Receive(2, world.apply(Enter(2))[0]))
+            self.assertEqual(world.standing(2), Standing(1, 1, Phase.GATHER, 0, {2: 0}, frozenset(), frozenset(), False))
+            self.assertEqual(str(world.standing(2).phase), "Gather")
 
     def test_an_envelope_costs_no_process(self) -> None:
         with World(3) as world, mock.patch.object(subprocess, "run", side_effect=AssertionError), \

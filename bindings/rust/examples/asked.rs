@@ -3,7 +3,7 @@
 
 mod numbers;
 
-use malletochre::{Command, Content, Envelope, Member, Message, Refusal, Session, SessionError, Setup, Step, World, MAX_BOUND};
+use malletochre::{Command, Content, Envelope, Member, Message, Refusal, Session, SessionError, Setup, Standing, Step, World, MAX_BOUND};
 use std::error::Error;
 use std::fmt::Write;
 
@@ -31,6 +31,14 @@ fn name(refusal: Result<(), Refusal>) -> String {
     refusal.map_or_else(|refusal| refusal.to_string(), |()| String::from("ok"))
 }
 
+fn stands(it: &Standing) -> String {
+    let phase = it.phase.map_or(String::from("-"), |phase| phase.to_string());
+    let crashed = if it.has_crashed { " crashed" } else { "" };
+    let heard: String = it.heard.iter().map(|(member, ts)| format!(" {member}:{ts}")).collect();
+    let [acked, replied] = [&it.acked, &it.replied].map(|set| set.iter().map(|member| format!(" {member}")).collect::<String>());
+    format!("stands {} {} {phase} {}{crashed} heard{heard} acked{acked} replied{replied}", it.instance, it.round, it.ts)
+}
+
 /// The step of these numbers of ct.h.
 fn step(numbers: &[u64]) -> Step {
     numbers::step(numbers).expect("a step")
@@ -50,6 +58,7 @@ impl Asked {
     fn ask_member(&self, member: Member<'_>) {
         let number = member.number();
         println!("member {number} {}", if member.has_crashed() { "crashed" } else { "up" });
+        println!("{}", stands(&member.standing()));
         println!("next {}", member.next().map_or(String::from("-"), |step| step.to_string()));
         let own = OWN_STEPS.map(|kind| step(&[kind, u64::from(number), u64::from(kind == 5), 0, 0]));
         println!("may {}", own.map(|step| name(self.world.enabled(step))).join(" "));

@@ -1,7 +1,7 @@
 //! What is asked of a member.
 
 use crate::handle::list;
-use crate::{raw, Envelope, Instance, MemberNumber, Message, Refusal, Serial, Step, World, REGISTERS};
+use crate::{raw, Envelope, Instance, MemberNumber, Message, Refusal, Serial, Standing, Step, World, REGISTERS};
 
 /// A member of a world's group, to be asked.
 ///
@@ -43,6 +43,26 @@ impl<'a> Member<'a> {
     /// with the largest ts), Adopt, Conclude, Enter and Suspect.
     pub fn next(self) -> Option<Step> {
         Step::of(unsafe { raw::ct_next(self.world.at(), self.number) })
+    }
+
+    /// Where it stands.
+    ///
+    /// ```
+    /// # use malletochre::{Command, Phase, Setup, Step, World};
+    /// # let mut world = World::open(Setup::of(3)).unwrap();
+    /// for step in [Step::Submit(2, Command::Set(0, 7)), Step::Receive(2, 2), Step::Begin(2)] {
+    ///     world.apply(step).unwrap();
+    /// }
+    /// // It coordinates round 1, so that it sends itself its estimate.
+    /// let estimate = world.apply(Step::Enter(2)).unwrap().start;
+    /// world.apply(Step::Receive(2, estimate)).unwrap();
+    /// let standing = world.member(2).unwrap().standing();
+    /// assert_eq!((standing.instance, standing.round, standing.phase), (1, 1, Some(Phase::Gather)));
+    /// assert_eq!(standing.heard, [(2, 0)].into());
+    /// assert!(standing.acked.is_empty());
+    /// ```
+    pub fn standing(self) -> Standing {
+        Standing::of(unsafe { raw::ct_standing_of(self.world.at(), self.number) })
     }
 
     /// The serials of the envelopes that wait here, in the order of its line.
