@@ -35,5 +35,9 @@ const host = {
   clock: () => Number(process.hrtime.bigint()),
   sleep,
 };
-const module = new WebAssembly.Module(fs.readFileSync(new URL("./out/tool.wasm", import.meta.url)));
-process.exitCode = run(module, host);
+const file = new URL("./out/tool.wasm", import.meta.url);
+if (fs.existsSync(file)) process.exitCode = run(new WebAssembly.Module(fs.readFileSync(file)), host);
+else {
+  console.error(`no ${file.pathname}: page/build.sh makes it`);
+  process.exitCode = 1;
+}

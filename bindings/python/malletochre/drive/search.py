@@ -270,7 +270,7 @@ def check(make: Make, wire: Optional[Wire] = None, *, members: int = 3, seeds: O
 
     The variable CT_SEEDS gives another number of seeds, CT_REHEARSE the file of a schedule that is tried alone."""
     __tracebackhide__ = True
-    _look(trouble, require)
+    _look(trouble, require, seeds)
     setup = Setup(make, wire, members, level, rules, Trouble(**trouble), batch, timeout, world)
     stem = _stem(keep_in)
     only = os.environ.get("CT_REHEARSE")
@@ -293,8 +293,10 @@ def check(make: Make, wire: Optional[Wire] = None, *, members: int = 3, seeds: O
     return done
 
 
-def _look(trouble: Dict[str, Any], require: Iterable[str]) -> None:
-    """These are options, and situations."""
+def _look(trouble: Dict[str, Any], require: Iterable[str], seeds: Any) -> None:
+    """These are options, situations, and several seeds."""
+    if isinstance(seeds, int):
+        raise TypeError(f"seeds: {seeds} is one number; range({seeds})?")
     wrong = [it for it in trouble if it not in Trouble.__dataclass_fields__]
     if wrong:
         near = difflib.get_close_matches(wrong[0], [*Trouble.__dataclass_fields__, *OPTIONS], 1)
