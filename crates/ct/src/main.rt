@@ -14,7 +14,7 @@ use ct_program::{
     Asked, Call, CommandFault, FreeOptions, LineFault, answer_status, free, line, seeded,
 };
 use ct_records::{ProgramFault, ReadFault, run_replay};
-use ct_streams::{Counted, Fault, FileFault, NamedFault, Sink};
+use ct_streams::{Counted, Fault, FileFault, NamedFault, Sink, Status};
 use ct_told::{NoRecord, begins_schedule};
 use front::Front;
 use opening::open;
@@ -156,7 +156,7 @@ fn run<T: Threads + Wait + Sync, W: Sink>(
 fn refuse(rt: &HostRuntime, fault: &LineFault) -> ExitCode {
     let answer = match fault {
         LineFault::Clap(error) => answer_status(error.use_stderr(), error.print(rt).is_ok()),
-        LineFault::Range => Err(CommandFault::Range),
+        LineFault::Range(line) => return fail(rt, line.as_str(), Status::Words.code()),
         LineFault::Memory => Err(CommandFault::Memory),
     };
     match answer {

@@ -1,13 +1,12 @@
 -- What clap makes of the program's words.
 use Rattle.std.proofs.Common.{arith, ◌≡◌, Bool, true, false, List, [], ◌∷◌, Option, Some, None, option_map, option_and_then, Box, box_value}
-use Rattle.std.proofs.Common.{codes, refl, ap, ◌∙◌, sym, subst, inl, inr, IsSomeAnd, ◌⊎◌}
+use Rattle.std.proofs.Common.{Ok, Err, codes, refl, ap, ◌∙◌, sym, subst, inl, inr, IsSomeAnd, ◌⊎◌}
 use Rattle.std.proofs.lemmas.Bool.Decides.{nat_tests}
 use Rattle.std.specs.Prelude.{if◌then◌else◌, unwrap_or}
-use Rattle.std.specs.Result.{result_ok}
 use Rattle.std.specs.Str.{bytes_eq}
 use Rattle.std.proofs.lemmas.Slice.Eq.{bytes_eq-Decides}
 use Rattle.std.specs.declared.alloc.Global.{Global}
-use Rattle.clap.specs.Words.{AddsSubcommand, App, HasKind, HasMatchesOf, Row, Text, app_of, fault_of, is_simple}
+use Rattle.clap.specs.Words.{AddsSubcommand, App, HasKind, HasMatchesOf, Kinds, Row, Text, app_of, fault_of, is_simple}
 use Rattle.clap.specs.Words.{first_of, is_simple_and_free, kind_of, subcommand_name_of, subcommand_of, subcommand_rows}
 use Rattle.clap.specs.Words.{subcommand_rows_of, with_subcommand}
 use Rattle.clap.specs.declared.builder.command.Command.{Command}
@@ -18,8 +17,11 @@ use Rattle.clap.specs.declared.parser.matches.SubCommand.{SubCommand}
 use Rattle.clap.specs.declared.error.Error.{Error}
 use Rattle.clap.specs.declared.error.kind.ErrorKind.TheVariants.{OutOfMemory}
 use Rattle.clap.proofs.OnLiterals.{clap_on_literals}
-use Rattle.ct_program.specs.declared.call.Call.TheVariants.{Free, Replay}
-use Rattle.ct_program.specs.Line.{call_at, call_of, faults_of, file_in, file_of, options_of, program}
+use Rattle.ct_program.specs.declared.call.Call.TheVariants.{Replay}
+use Rattle.ct_program.specs.declared.line_fault.LineFault.{LineFault}
+use Rattle.ct_program.specs.declared.line_fault.LineFault.TheVariants.{Clap, Range, Memory}
+use Rattle.ct_program.specs.Line.{IsOfKind, IsRangeOf, IsTold, call_at, call_of, faults_of, file_in, file_of, freely, options_of}
+use Rattle.ct_program.specs.Line.{program}
 use Rattle.ct_program.proofs.Subcommands.{accepted}
 
 is_free : is_simple_and_free program ≡ true
@@ -66,14 +68,14 @@ unfolding faults_of
 ours words e = accepted (built program) _ _ _ (argument_words program words) refl refl refl refl refl e
 
 replay_at : (found : Option (Text × List Row)) → IsSomeAnd found IsOurs → (option_map (λ p. p.0) found ≡ Some (codes "free") → ⊥) →
-    option_and_then (λ p. call_at p.0 p.1) found ≡ Some Replay
+    option_and_then (λ p. call_at p.0 p.1) found ≡ Some (Ok Replay)
 replay_at None own other = absurd own
 replay_at (Some p) (inl e) other = rw e refl
 replay_at (Some p) (inr e) other = absurd (other (ap Some e))
 
 free_at : (found : Option (Text × List Row)) (rows : List Row) → option_map (λ p. p.0) found ≡ Some (codes "free") →
     option_map (λ p. p.1) found ≡ Some rows
-    → option_and_then (λ p. call_at p.0 p.1) found ≡ option_map Free (result_ok (options_of rows))
+    → option_and_then (λ p. call_at p.0 p.1) found ≡ Some (freely (options_of rows))
 free_at None rows named has = absurd (cc)
 free_at (Some p) rows named has = grind (arith, nat_tests)
 
@@ -91,7 +93,7 @@ found_is app words m e h = (h (ap is_simple e ∙ is_exact)).1 ∙ ap (λ a. sub
 
 pub replay_called : (app : App) (words : List Text) (m : ArgMatches) → app ≡ program → HasMatchesOf app words m → fault_of app words ≡ [] →
     (subcommand_name_of m ≡ Some (codes "free") → ⊥)
-    → call_of words ≡ Some Replay
+    → call_of words ≡ Some (Ok Replay)
 unfolding call_of
 replay_called app words m e h passes other =
     let found : subcommand_rows_of m ≡ subcommand_of program words = found_is app words m e h in
@@ -100,12 +102,24 @@ replay_called app words m e h passes other =
 
 pub free_called : (app : App) (words : List Text) (m : ArgMatches) (rows : List Row) → app ≡ program → HasMatchesOf app words m →
     subcommand_name_of m ≡ Some (codes "free")
-    → option_map (λ p. p.1) (subcommand_rows_of m) ≡ Some rows → call_of words ≡ option_map Free (result_ok (options_of rows))
+    → option_map (λ p. p.1) (subcommand_rows_of m) ≡ Some rows → call_of words ≡ Some (freely (options_of rows))
 unfolding call_of
 free_called app words m rows e h named has =
     let found : subcommand_rows_of m ≡ subcommand_of program words = found_is app words m e h in
     free_at (subcommand_of program words) rows (sym (ap (option_map (λ p. p.0)) found) ∙ (named_found m ∙ named))
     (sym (ap (option_map (λ p. p.1)) found) ∙ has)
+
+-- what is told of an option where clap accepts the words
+pub told_kind : (kinds : Kinds) (line : Text) (fault : LineFault) → kinds ≡ [] → IsTold line fault → IsOfKind kinds fault
+told_kind kinds line (Clap error) none told = absurd told
+told_kind kinds line (Range text) none told = none
+told_kind kinds line Memory none told = tt
+
+pub told_range : (words : List Text) (line : Text) (fault : LineFault) → call_of words ≡ Some (Err line) → IsTold line fault →
+    IsRangeOf words fault
+told_range words line (Clap error) is told = absurd told
+told_range words line (Range text) is told = is ∙ ap (λ (l : Text). Some (Err l)) (sym told)
+told_range words line Memory is told = tt
 
 replay_named : (name : Text) → option_map (λ p. p.0) (subcommand_of program (name ∷ codes "replay" ∷ [])) ≡ Some (codes "replay")
 unfolding clap_on_literals

@@ -4,13 +4,12 @@ use Rattle.std.specs.IoError.{error_kind}
 use Rattle.std.specs.declared.io.Error.{Error}
 use Rattle.std.specs.declared.io.ErrorKind.TheVariants.{OutOfMemory}
 use Rattle.ct_program.specs.declared.command_fault.CommandFault.{CommandFault}
-use Rattle.ct_program.specs.declared.command_fault.CommandFault.TheVariants.{Arguments, Range, NoFile, NoSubcommand, Write, Memory}
+use Rattle.ct_program.specs.declared.command_fault.CommandFault.TheVariants.{Arguments, NoFile, NoSubcommand, Write, Memory}
 use Rattle.ct_streams.specs.declared.status.Status.TheVariants as status
 use Rattle.ct_streams.specs.Statuses.{code}
 
 abbrev pub command_status : CommandFault → ℕ
 command_status Arguments = code status.Words
-command_status Range = code status.Words
 command_status NoFile = code status.Words
 command_status NoSubcommand = code status.Words
 command_status Write = code status.Stream

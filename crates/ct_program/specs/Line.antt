@@ -1,8 +1,7 @@
 -- How the program's command line is read. `clap` gives what its commands make of words.
-use Rattle.std.specs.Prelude.{◌≡◌, ℕ, true, List, [], ◌∷◌, ◌++◌, codes, Option, Some, None, option_map, option_and_then, Result, Ok}
-use Rattle.std.specs.Prelude.{if◌then◌else◌, unwrap_or, ⊤}
+use Rattle.std.specs.Prelude.{◌≡◌, ℕ, true, List, [], ◌∷◌, ◌++◌, codes, Option, Some, None, option_and_then, Result, Ok, Err}
+use Rattle.std.specs.Prelude.{if◌then◌else◌, string_bytes, unwrap_or, ⊤}
 use Rattle.std.specs.Option.{option_map_or}
-use Rattle.std.specs.Result.{result_ok}
 use Rattle.std.specs.Str.{bytes_eq}
 use Rattle.ct_names.specs.declared.limit.TheConstants.{MAX_BOUND, MAX_CELLS, MAX_MEMBERS}
 use Rattle.clap.specs.Words.{App, Kinds, HasKind, Row, Rule, Text, fault_of, first_of, kind_of, new_app, subcommand_of, with_rule}
@@ -98,14 +97,19 @@ options_of rows = options_with rows (option_in rows (codes "seed") 0 4294967295)
 abbrev pub seedless_of : List Row → Result FreeOptions Text
 seedless_of rows = options_with rows (Ok 0)
 
--- the call of a subcommand, by its name and what clap found for its options
-abbrev pub call_at : Text → List Row → Option Call
-call_at name rows =
-    if bytes_eq name (codes "replay") then Some Replay else
-    (if bytes_eq name (codes "free") then option_map Free (result_ok (options_of rows)) else None)
+-- a free run of these options
+abbrev pub freely : Result FreeOptions Text → Result Call Text
+freely (Ok options) = Ok (Free options)
+freely (Err line) = Err line
 
--- what the words ask for, where clap accepts them; None where a value isn't of its option's range
-unfoldable pub call_of : List Text → Option Call
+-- the call of a subcommand, by its name and what clap found for its options
+abbrev pub call_at : Text → List Row → Option (Result Call Text)
+call_at name rows =
+    if bytes_eq name (codes "replay") then Some (Ok Replay) else
+    (if bytes_eq name (codes "free") then Some (freely (options_of rows)) else None)
+
+-- what the words ask for, where clap accepts them; or the line of the first option whose value isn't of its range
+unfoldable pub call_of : List Text → Option (Result Call Text)
 call_of words = option_and_then (λ found. call_at found.0 found.1) (subcommand_of program words)
 
 -- the file that a subcommand is about, by its name and what clap found for its arguments
@@ -125,11 +129,22 @@ file_of words = file_in (subcommand_of program words)
 -- the fault is of one of these kinds, want of memory, or of a value where clap accepts the words
 abbrev pub IsOfKind : Kinds → LineFault → Type 0
 IsOfKind kinds (Clap error) = HasKind kinds error
-IsOfKind kinds Range = kinds ≡ []
+IsOfKind kinds (Range line) = kinds ≡ []
 IsOfKind kinds Memory = ⊤
 
 -- memory was refused, while clap read the words or before
 abbrev pub IsMemory : LineFault → Type 0
 IsMemory (Clap error) = kind_of error ≡ OutOfMemory
-IsMemory Range = ⊥
+IsMemory (Range line) = ⊥
 IsMemory Memory = ⊤
+
+-- the line of an option, or want of memory for it
+abbrev pub IsTold : Text → LineFault → Type 0
+IsTold line (Clap error) = ⊥
+IsTold line (Range text) = string_bytes text ≡ line
+IsTold line Memory = ⊤
+
+-- a value isn't of its option's range, and this line says so
+abbrev pub IsRangeOf : List Text → LineFault → Type 0
+IsRangeOf words (Range line) = call_of words ≡ Some (Err (string_bytes line))
+IsRangeOf words _ = ⊤

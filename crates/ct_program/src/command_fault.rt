@@ -15,9 +15,6 @@ pub enum CommandFault {
     /// The words are not UTF-8.
     #[error("arguments")]
     Arguments,
-    /// An option's value is no whole number of its range.
-    #[error("out of range")]
-    Range,
     /// No file is named.
     #[error("no file")]
     NoFile,
@@ -38,10 +35,8 @@ impl CommandFault {
         ensures { result ≡ command_status self.now }
     {
         let status = match self {
-            CommandFault::Arguments
-            | CommandFault::Range
-            | CommandFault::NoFile
-            | CommandFault::NoSubcommand => Status::Words,
+            CommandFault::Arguments | CommandFault::NoFile | CommandFault::NoSubcommand =>
+                Status::Words,
             CommandFault::Write => Status::Stream,
             CommandFault::Memory => Status::Memory,
         };

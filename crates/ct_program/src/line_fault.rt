@@ -7,8 +7,8 @@ use std::alloc::AllocError;
 pub enum LineFault {
     /// They ask for help or the version, or are none of the program's.
     Clap(clap::Error),
-    /// An option's value is no whole number of its range.
-    Range,
+    /// An option's value is no whole number of its range; the line that names it, and says what would be right.
+    Range(String),
     /// Memory was refused.
     Memory,
 }

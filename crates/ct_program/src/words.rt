@@ -7,6 +7,7 @@ ghost use Rattle.ct_program.specs.FreeOptions.{FreeInRange, InRange};
 ghost use Rattle.ct_program.specs.Line.{program, free_app, free_rules, group_rules, members_rule, replay_app, seedless_rules};
 ghost use Rattle.ct_program.specs.Line.{faults_of, call_of};
 ghost use Rattle.ct_program.specs.Line.{file_in, file_of, options_of, options_with, seedless_of, IsOfKind, IsMemory};
+ghost use Rattle.ct_program.specs.Line.{IsRangeOf, IsTold};
 
 use crate::call::{Asked, Call};
 use crate::free_options::{FreeOptions, MAX_EACH, MAX_RATE, MAX_TURNS};
@@ -22,11 +23,11 @@ use std::alloc::{AllocError, Global};
 /// help or for the version is a fault whose text is the answer.
 pub fn line<'a>(alloc: Global, words: &'a [&'a str]) -> Result<Asked<'a>, LineFault>
     ensures ok { OnOk result (faults_of (map (λ word. word.now) words.now) ≡ []) }
-    ensures call { IfOk result (λ asked. call_of (map (λ word. word.now) words.now) ≡ Some asked.call) }
+    ensures call { IfOk result (λ asked. call_of (map (λ word. word.now) words.now) ≡ Some (Ok asked.call)) }
     ensures file { IfOk result (λ asked. asked.file.now ≡ file_of (map (λ word. word.now) words.now)) }
     ensures in_range { IfOk result (λ asked. FreeInRange asked.call) }
     ensures err { IfErr result (IsOfKind (faults_of (map (λ word. word.now) words.now))) }
-    ensures range { result ≡ Err LineFault.Range → call_of (map (λ word. word.now) words.now) ≡ None }
+    ensures range { IfErr result (IsRangeOf (map (λ word. word.now) words.now)) }
     // After the name the one word `replay` is refused for want of memory alone.
     ensures replay { (name : List ℕ) → map (λ word. word.now) words.now ≡ name ∷ codes "replay" ∷ [] → IfErr result IsMemory }
 {
@@ -44,8 +45,18 @@ pub fn line<'a>(alloc: Global, words: &'a [&'a str]) -> Result<Asked<'a>, LineFa
                 call: Call::Free(options),
                 file: "-",
             }),
-            Err(_) => Err(LineFault::Range),
+            Err(fault) => Err(out_of_range(alloc, fault)),
         },
+    }
+}
+
+// What is told of an option whose value isn't of its range.
+fn out_of_range(alloc: Global, fault: WordFault<'_>) -> LineFault
+    ensures { IsTold fault.entry result }
+{
+    match format!(in alloc; "{fault}") {
+        Ok(line) => LineFault::Range(line),
+        Err(_) => LineFault::Memory,
     }
 }
 

@@ -1,8 +1,9 @@
-use Rattle.std.proofs.Common.{ap, is_some, option_map, sym, true≢false, false, ◌∙◌, ◌≡◌}
-use Rattle.std.specs.Result.{result_ok}
-use Rattle.ct_program.specs.declared.call.Call.TheVariants.{Free}
+use Rattle.std.proofs.Common.{ap, is_some, sym, true≢false, false, ◌∙◌, ◌≡◌, Result, Some}
+use Rattle.clap.specs.Words.{Text}
+use Rattle.ct_program.specs.Line.{freely}
+use Rattle.ct_program.specs.declared.free_options.FreeOptions.{FreeOptions}
 use Rattle.ct_program.proofs.Lines.{exact_app, file_found, free_called, free_file, has_kind, no_faults, replay_called, replay_only}
-use Rattle.ct_program.proofs.Lines.{replay_passes}
+use Rattle.ct_program.proofs.Lines.{replay_passes, told_kind, told_range}
 use Rattle.ct_program.proofs.words.line.Goals as goal
 
 pub returns-in-Err-clause-err : goal.returns-in-Err-clause-err
@@ -34,7 +35,7 @@ pub returns-in-Ok-found_options-clause-call : goal.returns-in-Ok-found_options-c
 returns-in-Ok-found_options-clause-call c =
     free_called _ _ _ _ c.in_ok-command.ensures c.in-Ok.ensures.matches (c.subcommand_matches.ensures.found.0 (ap is_some c.in-Some.is))
     c.in-Some.ensures.rows
-    ∙ ap (option_map Free) (sym (ap result_ok c.found_options.ensures.exact) ∙ ap result_ok c.in-Ok-found_options.is)
+    ∙ ap (λ (r : Result FreeOptions Text). Some (freely r)) (sym c.found_options.ensures.exact ∙ c.in-Ok-found_options.is)
 
 pub returns-in-Ok-found_options-clause-file : goal.returns-in-Ok-found_options-clause-file
 returns-in-Ok-found_options-clause-file c =
@@ -44,15 +45,18 @@ pub returns-in-Ok-found_options-clause-in_range : goal.returns-in-Ok-found_optio
 returns-in-Ok-found_options-clause-in_range c = c.in-Ok-found_options.ensures.range
 
 pub returns-clause-err : goal.returns-clause-err
-returns-clause-err c = no_faults _ _ c.in_ok-command.ensures (c.in-Ok.ensures.kinds (exact_app _ c.in_ok-command.ensures))
+returns-clause-err c =
+    told_kind _ _ _ (no_faults _ _ c.in_ok-command.ensures (c.in-Ok.ensures.kinds (exact_app _ c.in_ok-command.ensures)))
+    c.out_of_range.ensures
 
 pub returns-clause-range : goal.returns-clause-range
-returns-clause-range c = λ _.
-    free_called _ _ _ _ c.in_ok-command.ensures c.in-Ok.ensures.matches (c.subcommand_matches.ensures.found.0 (ap is_some c.in-Some.is))
-    c.in-Some.ensures.rows
-    ∙ ap (option_map Free) (sym (ap result_ok c.found_options.ensures.exact) ∙ ap result_ok c.in-Err-found_options.is)
+returns-clause-range c =
+    told_range _ _ _ (free_called _ _ _ _ c.in_ok-command.ensures c.in-Ok.ensures.matches
+    (c.subcommand_matches.ensures.found.0 (ap is_some c.in-Some.is)) c.in-Some.ensures.rows
+    ∙ ap (λ (r : Result FreeOptions Text). Some (freely r)) (sym c.found_options.ensures.exact ∙ c.in-Err-found_options.is))
+    c.out_of_range.ensures
 
 pub returns-clause-replay : goal.returns-clause-replay
 returns-clause-replay c = λ name e.
-    replay_only _ _ _ name c.in_ok-command.ensures c.in-Ok.ensures.matches e
-    (c.subcommand_matches.ensures.found.0 (ap is_some c.in-Some.is))
+    absurd (replay_only _ _ _ name c.in_ok-command.ensures c.in-Ok.ensures.matches e
+    (c.subcommand_matches.ensures.found.0 (ap is_some c.in-Some.is)))
