@@ -24,8 +24,8 @@ A block is told by its first line:
 NAME.fault beside a file that they name. In what is written a line that begins with `..` stands for any text, and line ends don't count
 where the paragraph says `line ends added`. What `ct free` writes is not compared: its runs are not the same twice.
 
-A block that is none of these fails, unless NOT_RUN has it. Prints a line for each failure, how many blocks were run, those that were not,
-and last `N passed, M failed`. Needs Python 3.8 and, for programs in Rattle, `rt` on the path.
+A block that is none of these fails, unless NOT_RUN has it. Prints a line for each failure, how long each document took, how many blocks
+were run, those that were not, and last `N passed, M failed`. Needs Python 3.8 and, for programs in Rattle, `rt` on the path.
 """
 from __future__ import annotations
 
@@ -36,6 +36,7 @@ import shutil
 import subprocess
 import sys
 import tempfile
+import time
 from typing import Any, Dict, Iterator, List, NamedTuple, Optional
 
 ROOT = os.path.dirname(os.path.dirname(os.path.abspath(__file__)))
@@ -364,9 +365,13 @@ def main() -> None:
     with tempfile.TemporaryDirectory() as folder:
         cases = Cases(Tree(folder, *sys.argv[1:]))
         names = sorted(os.path.relpath(path, ROOT) for path in glob.glob(os.path.join(ROOT, "docs", "*.md")))
+        waited = []
         for name in ["README.md", "examples/README.md", *names]:
+            start = time.monotonic()
             Document(cases, name).run()
+            waited.append(f"{name} {time.monotonic() - start:.1f}")
         run_examples(cases)
+        print(f"seconds that a reader waits: {', '.join(waited)}")
         print(cases.total())
 
 
