@@ -3,15 +3,16 @@
 ghost use Rattle.std.specs.Prelude.{◌≡◌, OnOk, option_map};
 ghost use Rattle.ct_text.specs.Adds.{Adds};
 ghost use Rattle.ct_show.specs.Details.{size_of};
-ghost use Rattle.ct_judging.specs.Rights.{count_text, enough_for, larger_of, largest_heard, largest_of, last_proposal, proposal_in};
-ghost use Rattle.ct_judging.specs.Rights.{proposal_text, proposed_in, right_of, right_text, room_for, round_in};
+ghost use Rattle.ct_judging.specs.Rights.{choice_for, count_text, enough_for, larger_of, largest_heard, largest_of, last_proposal, proposal_in};
+ghost use Rattle.ct_judging.specs.Rights.{phase_for, phase_hint, proposal_text, proposed_in, right_of, right_text, room_for, round_in};
+ghost use Rattle.ct_judging.specs.Rights.{unheard_text, unless_heard};
 ghost use Rattle.ct_judging.specs.Wording.{numbered_twice};
 
 use crate::wording::push_number;
 use ct_judging::Right;
-use ct_model::Step;
+use ct_model::{Phase, Step};
 use ct_names::{Instance, Limit, MAX_CELLS, Member, MemberSet, Message, Refusal, Round};
-use ct_text::{instance_of, round_of};
+use ct_text::{instance_of, phase_name, round_of};
 use ct_world::{Letter, Wire, World};
 use std::alloc::AllocError;
 
@@ -21,7 +22,8 @@ pub(crate) fn right_of(world: &World, step: Step, refusal: Refusal) -> Right
 {
     match refusal {
         Refusal::Full(limit) => room_for(world, limit),
-        Refusal::NotLargest => largest_of(largest_heard(world, step.member())),
+        Refusal::NotLargest => choice_for(world, step),
+        Refusal::WrongPhase => phase_for(step),
         Refusal::TooFew => enough_for(world, step),
         Refusal::NoProposal => Right::Proposal {
             round: round_of(world, step.member()),
@@ -48,6 +50,39 @@ fn largest_of(best: Option<(Member, Round)>) -> Right
     match best {
         None => Right::Untold,
         Some((from, ts)) => Right::Largest { from, ts },
+    }
+}
+
+fn choice_for(world: &World, step: Step) -> Right
+    ensures { result ≡ choice_for world.now.rehearsal step }
+{
+    let largest = largest_of(largest_heard(world, step.member()));
+    match step {
+        Step::Choose(member, from) => unless_heard(from, world.heard_from(member, from), largest),
+        _ => largest,
+    }
+}
+
+// That the member was not heard, where it wasn't.
+fn unless_heard(from: Member, heard: Option<(&[Message], Round)>, largest: Right) -> Right
+    ensures { result ≡ unless_heard from (option_map (λ e. (e.0.now, e.1)) heard.entry) largest }
+{
+    match heard {
+        None => Right::Unheard(from),
+        Some(_) => largest,
+    }
+}
+
+// The phase of the steps of this kind.
+fn phase_for(step: Step) -> Right
+    ensures { result ≡ phase_for step }
+{
+    match step {
+        Step::Enter(_) => Right::Phase(Phase::Rest),
+        Step::Choose(..) => Right::Phase(Phase::Gather),
+        Step::Adopt(_) | Step::Suspect(_) => Right::Phase(Phase::Wait),
+        Step::Conclude(_) => Right::Phase(Phase::Tally),
+        _ => Right::Untold,
     }
 }
 
@@ -161,6 +196,8 @@ pub(crate) fn push_right(text: &mut String, right: Right) -> Result<(), AllocErr
     match right {
         Right::Untold => Ok(()),
         Right::MoreCells => text.push_str("; cells 1024 at the top gives room for more"),
+        Right::Phase(phase) => push_phase(text, phase),
+        Right::Unheard(member) => push_unheard(text, member),
         Right::Largest { from, ts } => push_twice(
             text,
             "; the largest ts heard is ",
@@ -172,6 +209,21 @@ pub(crate) fn push_right(text: &mut String, right: Right) -> Result<(), AllocErr
         Right::Replies { came, needed } => push_count(text, came, " replied, ", needed),
         Right::Proposal { round, last } => push_proposal(text, round, last),
     }
+}
+
+#[tactic(auto, unfolding(ct_judging::specs::Rights::phase_hint))]
+fn push_phase(text: &mut String, phase: Phase) -> Result<(), AllocError>
+    ensures { OnOk result (Adds text.old text.new (phase_hint phase)) }
+{
+    let name = phase_name(phase);
+    write!(text, "; a step of the phase {name}")
+}
+
+#[tactic(auto, unfolding(ct_judging::specs::Rights::unheard_text))]
+fn push_unheard(text: &mut String, member: Member) -> Result<(), AllocError>
+    ensures { OnOk result (Adds text.old text.new (unheard_text member)) }
+{
+    write!(text, "; {member} was not heard")
 }
 
 fn push_count(text: &mut String, count: u8, words: &str, needed: u8) -> Result<(), AllocError>

@@ -8,22 +8,25 @@ use Rattle.ct_names.specs.declared.limit.Limit.{Limit}
 use Rattle.ct_names.specs.declared.limit.Limit.TheVariants.{Cells}
 use Rattle.ct_names.specs.declared.limit.TheConstants.{MAX_CELLS}
 use Rattle.ct_names.specs.declared.refusal.Refusal.{Refusal}
-use Rattle.ct_names.specs.declared.refusal.Refusal.TheVariants.{Full, NotLargest, TooFew, NoProposal}
+use Rattle.ct_names.specs.declared.refusal.Refusal.TheVariants.{Full, NotLargest, TooFew, NoProposal, WrongPhase}
 use Rattle.ct_model.specs.Actor.{actor}
 use Rattle.ct_model.specs.Rehearsal.{Rehearsal}
 use Rattle.ct_model.specs.declared.envelope.Envelope.{Envelope}
+use Rattle.ct_model.specs.declared.phase.Phase.{Phase}
+use Rattle.ct_model.specs.declared.phase.Phase.TheVariants.{Rest, Gather, Wait, Tally}
 use Rattle.ct_model.specs.declared.step.Step.{Step}
-use Rattle.ct_model.specs.declared.step.Step.TheVariants.{Receive, Choose, Conclude}
+use Rattle.ct_model.specs.declared.step.Step.TheVariants.{Receive, Enter, Choose, Adopt, Suspect, Conclude}
 use Rattle.ct_model.specs.declared.wire.Wire.{Wire}
 use Rattle.ct_model.specs.declared.wire.Wire.TheVariants.{Prop}
 use Rattle.ct_world.specs.Standing.{all_heard_by, heard_by, replied_by}
 use Rattle.ct_world.specs.World.{member_of, if_member}
+use Rattle.ct_text.specs.Shapes.{phase_text}
 use Rattle.ct_text.specs.Standing.{instance_of, round_of}
 use Rattle.ct_show.specs.Details.{size_of}
 use Rattle.ct_show.specs.Wires.{letter_at}
 use Rattle.ct_judging.specs.Wording.{numbered, numbered_twice}
 use Rattle.ct_judging.specs.declared.right.Right.{Right}
-use Rattle.ct_judging.specs.declared.right.Right.TheVariants.{Untold, MoreCells, Largest, Estimates, Replies, Proposal}
+use Rattle.ct_judging.specs.declared.right.Right.TheVariants.{Untold, MoreCells, Phase as OfPhase, Unheard, Largest, Estimates, Replies, Proposal}
 
 -- ---- the largest ts
 
@@ -41,6 +44,27 @@ largest_heard w p (suc k) = larger_of (largest_heard w p k) (suc k) (if_member w
 abbrev pub largest_of : Option (ℕ × ℕ) → Right
 largest_of None = Untold
 largest_of (Some b) = Largest b.0 b.1
+
+-- that what q sent was not heard, where it wasn't
+abbrev pub unless_heard : ℕ → Option (Value × ℕ) → Right → Right
+unless_heard q None largest = Unheard q
+unless_heard q (Some e) largest = largest
+
+abbrev pub choice_for : Rehearsal → Step → Right
+choice_for w (Choose p q) =
+    unless_heard q (if_member w p (heard_by (member_of w p) q)) (largest_of (largest_heard w p w.setting.members))
+choice_for w step = largest_of (largest_heard w (actor step) w.setting.members)
+
+-- ---- another phase
+
+-- the phase of the steps of this kind
+abbrev pub phase_for : Step → Right
+phase_for (Enter p) = OfPhase Rest
+phase_for (Choose p from) = OfPhase Gather
+phase_for (Adopt p) = OfPhase Wait
+phase_for (Suspect p) = OfPhase Wait
+phase_for (Conclude p) = OfPhase Tally
+phase_for step = Untold
 
 -- ---- a proposal of another round
 
@@ -78,7 +102,8 @@ enough_for w step = Untold
 
 abbrev pub right_of : Rehearsal → Step → Refusal → Right
 right_of w step (Full limit) = room_for w limit
-right_of w step NotLargest = largest_of (largest_heard w (actor step) w.setting.members)
+right_of w step NotLargest = choice_for w step
+right_of w step WrongPhase = phase_for step
 right_of w step TooFew = enough_for w step
 right_of w step NoProposal = Proposal (round_of w (actor step)) (last_proposal w (actor step))
 right_of w step refusal = Untold
@@ -93,9 +118,17 @@ proposal_text round None = numbered (codes "; has no proposal of round ") round
 proposal_text round (Some last) =
     numbered_twice (codes "; has the proposal of round ") last (codes ", none of round ") round
 
+unfoldable pub phase_hint : Phase → List ℕ
+phase_hint phase = concat (codes "; a step of the phase " ∷ phase_text phase ∷ [])
+
+unfoldable pub unheard_text : ℕ → List ℕ
+unheard_text q = concat (codes "; " ∷ decimal q ∷ codes " was not heard" ∷ [])
+
 unfoldable pub right_text : Right → List ℕ
 right_text Untold = []
 right_text MoreCells = codes "; cells 1024 at the top gives room for more"
+right_text (OfPhase phase) = phase_hint phase
+right_text (Unheard q) = unheard_text q
 right_text (Largest from ts) = numbered_twice (codes "; the largest ts heard is ") ts (codes ", from ") from
 right_text (Estimates heard needed) = count_text heard (codes " heard, ") needed
 right_text (Replies came needed) = count_text came (codes " replied, ") needed

@@ -1,5 +1,6 @@
 //! What would be right in place of steps that are refused.
 
+use ct_model::Phase;
 use ct_names::{Member, Round};
 
 /// What would be right in place of a step that is refused.
@@ -9,6 +10,10 @@ pub enum Right {
     Untold,
     /// More cells.
     MoreCells,
+    /// A step of this phase.
+    Phase(Phase),
+    /// The estimate of this member was not heard.
+    Unheard(Member),
     /// The estimate of this member, or another one with this ts, the largest that was heard.
     Largest { from: Member, ts: Round },
     /// So many estimates as are needed.

@@ -17,9 +17,10 @@ use Rattle.ct_world.specs.Standing.{heard_by}
 use Rattle.ct_world.specs.World.{member_of, if_member}
 use Rattle.ct_text.specs.Standing.{instance_of}
 use Rattle.ct_show.specs.Wires.{letter_at}
-use Rattle.ct_judging.specs.Rights.{larger_of, largest_heard, largest_of, last_proposal, proposal_in, proposed_in, right_of}
-use Rattle.ct_judging.specs.declared.right.Right.TheVariants.{Largest, MoreCells, Proposal}
-use Rattle.ct_laws.specs.Rights.{HasProposal, Hears, IsLargest}
+use Rattle.ct_judging.specs.Rights.{larger_of, largest_heard, largest_of, last_proposal, proposal_in, proposed_in, right_of, unless_heard}
+use Rattle.ct_judging.specs.declared.right.Right.{Right}
+use Rattle.ct_judging.specs.declared.right.Right.TheVariants.{Largest, MoreCells, Proposal, Unheard}
+use Rattle.ct_laws.specs.Rights.{HasProposal, Hears, HearsNone, IsLargest}
 
 -- ---- the largest ts
 
@@ -108,7 +109,32 @@ largest_by w p (Some b) q ts so is =
       largest = λ other v more there h. all.largest other v more there.0 there.1 h;
     }
 
+-- ---- a choice
+
+chosen : (from : ℕ) (heard : Option (Value × ℕ)) (right : Right) (q ts : ℕ) → unless_heard from heard right ≡ Largest q ts → right ≡ Largest q ts
+chosen from None right q ts is = absurd (cc is)
+chosen from (Some e) right q ts is = is
+
+is_heard : (best : Option (ℕ × ℕ)) (q : ℕ) → largest_of best ≡ Unheard q → ⊥
+is_heard None q is = cc is
+is_heard (Some b) q is = cc is
+
+unheard : (w : Rehearsal) (p from q : ℕ) (best : Option (ℕ × ℕ)) (heard : Option (Value × ℕ)) →
+    if_member w p (heard_by (member_of w p) from) ≡ heard → unless_heard from heard (largest_of best) ≡ Unheard q → HearsNone w p q
+unheard w p from q best None here is =
+    let same : from ≡ q = cc is in
+    subst (λ n. HearsNone w p n) same here
+unheard w p from q best (Some e) here is = absurd (is_heard best q is)
+
+pub unheard_right : (w : Rehearsal) (step : Step) (q : ℕ) → right_of w step NotLargest ≡ Unheard q → HearsNone w (actor step) q
+unheard_right w (steps.Choose p from) q is =
+    unheard w p from q (largest_heard w p w.setting.members) (if_member w p (heard_by (member_of w p) from)) refl is
+unheard_right w step q is = absurd (is_heard (largest_heard w (actor step) w.setting.members) q is)
+
 pub largest_right : (w : Rehearsal) (step : Step) (q ts : ℕ) → right_of w step NotLargest ≡ Largest q ts → IsLargest w (actor step) q ts
+largest_right w (steps.Choose p from) q ts is =
+    largest_by w p (largest_heard w p w.setting.members) q ts (best_is w p w.setting.members)
+    (chosen from (if_member w p (heard_by (member_of w p) from)) (largest_of (largest_heard w p w.setting.members)) q ts is)
 largest_right w step q ts is =
     largest_by w (actor step) (largest_heard w (actor step) w.setting.members) q ts (best_is w (actor step) w.setting.members) is
 

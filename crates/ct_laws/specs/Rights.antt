@@ -1,5 +1,5 @@
 -- When what is told to be right is so.
-use Rattle.std.specs.Prelude.{◌≡◌, ◌≤◌, ℕ, Some}
+use Rattle.std.specs.Prelude.{◌≡◌, ◌≤◌, ℕ, Some, None}
 use Rattle.ct_names.specs.Group.{IsMember}
 use Rattle.ct_names.specs.Value.{Value}
 use Rattle.ct_model.specs.Rehearsal.{Rehearsal}
@@ -20,6 +20,10 @@ pub record IsLargest (w : Rehearsal) (p q ts : ℕ) : Type 0 where
   pub there : IsMember w.setting.members q
   pub heard : (v : Value) × Hears w p q v ts
   pub largest : (other : ℕ) (v : Value) (more : ℕ) → IsMember w.setting.members other → Hears w p other v more → more ≤ ts
+
+-- p heard no estimate of q for its round
+abbrev pub HearsNone : Rehearsal → (p q : ℕ) → Type 0
+HearsNone w p q = if_member w p (heard_by (member_of w p) q) ≡ None
 
 -- p received a proposal of its instance for this round
 pub record HasProposal (w : Rehearsal) (p round : ℕ) : Type 0 where
