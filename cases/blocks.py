@@ -57,15 +57,8 @@ NOT_RUN = {
         "npm install --silent --offline ./malletochre-0.1.0.tgz", "refused TooFew")},
     ("docs/ALGORITHM.md", "Enter               Choose             Adopt or Suspect             Conclude"): "a drawing",
     ("docs/LOGS.md", "# the log of member 1"): "a log without those of the others",
-    ("docs/LOGS.md", "accepted: 5 members, 812 lines; instances 3, largest round 4, suspicions 7, choices between different ts 2, "
-                     "repetitions 31"): "what is told of other logs; cases/logs.py has such lines",
-    ("docs/LOGS.md", "presumed: 12 steps of member 2, 1 step of member 4; 5 members, 825 lines; instances 3, largest round 4, suspicions 7, "
-     "choices .."): "what is told of a run with presumed steps",
     ("docs/ARCHITECTURE.md", "programs               ct             ct_tool             ct_growths"): "a drawing",
     ("docs/ORDER.md", "broadcast a1      it submitted the message of this name"): "each line of a log, with what it says",
-    **{("docs/ORDER.md", line): "what is told of other logs; cases/orders.py has such lines" for line in (
-        "accepted: 3 logs, 812 deliveries; b.log is 3 behind; c.log crashed",
-        "refused: b.log line 40: deliver m9: position 17: a.log line 38 delivered m8")},
 }
 # What the processes a, b and c log, where it is about `order`.
 ORDERED = {name: f"broadcast {name}1\ndeliver a1\ndeliver b1\ndeliver c1\nend\n" for name in "abc"}
