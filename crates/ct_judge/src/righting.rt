@@ -3,7 +3,8 @@
 ghost use Rattle.std.specs.Prelude.{◌≡◌, OnOk, option_map};
 ghost use Rattle.ct_text.specs.Adds.{Adds};
 ghost use Rattle.ct_show.specs.Details.{size_of};
-ghost use Rattle.ct_judging.specs.Rights.{choice_for, count_text, enough_for, larger_of, largest_heard, largest_of, last_proposal, proposal_in};
+ghost use Rattle.ct_judging.specs.Rights.{choice_for, count_text, enough_for, larger_of, largest_heard, largest_of};
+ghost use Rattle.ct_judging.specs.Rights.{last_proposal, proposal_in};
 ghost use Rattle.ct_judging.specs.Rights.{phase_for, phase_hint, proposal_text, proposed_in, right_of, right_text, room_for, round_in};
 ghost use Rattle.ct_judging.specs.Rights.{unheard_text, unless_heard};
 ghost use Rattle.ct_judging.specs.Wording.{numbered_twice};

@@ -26,7 +26,8 @@ use Rattle.ct_show.specs.Details.{size_of}
 use Rattle.ct_show.specs.Wires.{letter_at}
 use Rattle.ct_judging.specs.Wording.{numbered, numbered_twice}
 use Rattle.ct_judging.specs.declared.right.Right.{Right}
-use Rattle.ct_judging.specs.declared.right.Right.TheVariants.{Untold, MoreCells, Phase as OfPhase, Unheard, Largest, Estimates, Replies, Proposal}
+use Rattle.ct_judging.specs.declared.right.Right.TheVariants.{Untold, MoreCells, Phase as OfPhase, Unheard}
+use Rattle.ct_judging.specs.declared.right.Right.TheVariants.{Largest, Estimates, Replies, Proposal}
 
 -- ---- the largest ts
 

@@ -111,7 +111,8 @@ largest_by w p (Some b) q ts so is =
 
 -- ---- a choice
 
-chosen : (from : ℕ) (heard : Option (Value × ℕ)) (right : Right) (q ts : ℕ) → unless_heard from heard right ≡ Largest q ts → right ≡ Largest q ts
+chosen : (from : ℕ) (heard : Option (Value × ℕ)) (right : Right) (q ts : ℕ) → unless_heard from heard right ≡ Largest q ts →
+    right ≡ Largest q ts
 chosen from None right q ts is = absurd (cc is)
 chosen from (Some e) right q ts is = is
 

@@ -144,7 +144,8 @@ pub index_kept : (old new more : List Envelope) (last : Address → Option ℕ) 
     IsIndex old last before → IsIndex new last before
 index_kept old new more last before is index = record {
   few = omega (arith, index.few, ap length is, length-append old more);
-  last = λ a. last_same (is_at old a) (is_at new a) (length before) (unwrap_or (last a) 0) (same a (length before) index.few) (index.last a);
+  last = λ a.
+      last_same (is_at old a) (is_at new a) (length before) (unwrap_or (last a) 0) (same a (length before) index.few) (index.last a);
   before = λ a i low at.
       let here : suc i ≤ length old = omega (arith, index.few) in
       let was : is_at old a (suc i) ≡ true = sym (same a (suc i) here (suc i) (omega arith)) ∙ at in

@@ -6,7 +6,8 @@ ghost use Rattle.ct_text.specs.Adds.{Adds};
 ghost use Rattle.ct_text.specs.Standing.{coordinator_of};
 ghost use Rattle.ct_show.specs.Facts.Fact.{InRound, Unsent};
 ghost use Rattle.ct_show.specs.Facts.{fact_text, facts_text, first_heard, heard_of, heard_text, last_taking, left_in};
-ghost use Rattle.ct_show.specs.Facts.{left_text, letter_facts, member_facts, part, place, refused_text, returns, takes, taking_or, texts_of};
+ghost use Rattle.ct_show.specs.Facts.{left_text, letter_facts, member_facts, part, place};
+ghost use Rattle.ct_show.specs.Facts.{refused_text, returns, takes, taking_or, texts_of};
 
 use crate::acts::{push_act, push_step};
 use crate::details::{push_acks, push_coordinator};
