@@ -8,7 +8,6 @@ use Rattle.ct_grammar.specs.declared.claim.Claim.{Claim}
 use Rattle.ct_grammar.specs.declared.claim.Claim.TheVariants as claims
 use Rattle.ct_grammar.specs.declared.claim.Extent.{Extent}
 use Rattle.ct_grammar.specs.declared.claim.Extent.TheVariants.{Exactly, AtLeast}
-use Rattle.ct_grammar.specs.declared.claim.Name.{Name}
 use Rattle.ct_grammar.specs.declared.reason.Reason.{Reason}
 use Rattle.ct_grammar.specs.declared.unfit.Unfit.{Unfit}
 use Rattle.ct_grammar.specs.declared.unfit.Unfit.TheVariants.{End, Word as Other}
@@ -16,10 +15,11 @@ use Rattle.ct_grammar.specs.declared.wanted.Wanted.{Wanted}
 use Rattle.ct_grammar.specs.declared.wanted.Wanted.TheVariants as wanted
 use Rattle.ct_grammar.specs.Words.{Word}
 use Rattle.ct_grammar.specs.Unfits.{◌>>=◌, map_ok}
-use Rattle.ct_grammar.specs.Numbers.{number_of, two_numbers, max_u8, max_u32}
-use Rattle.ct_grammar.specs.Leading.{behind_term, over}
+use Rattle.ct_grammar.specs.Names.{name_of}
+use Rattle.ct_grammar.specs.Numbers.{number_of, max_u8, max_u32}
+use Rattle.ct_grammar.specs.Leading.{behind_term, lone_whole, over}
 use Rattle.ct_grammar.specs.Reasons.{reason_of}
-use Rattle.ct_grammar.specs.Facts.{lone_whole, named_fact}
+use Rattle.ct_grammar.specs.Facts.{named_fact}
 
 -- ---- amounts
 
@@ -53,10 +53,6 @@ one_number (word ∷ next ∷ words) = None
 unfoldable pub decided : Option (Result Claim Unfit) → List Word → Option (Result Claim Unfit)
 decided (Some count) words = Some count
 decided None words = option_map (λ i. Ok (claims.Got i)) (one_number words)
-
--- the name of a message: its origin and its number, with a dot between them
-unfoldable pub name_of : Word → Option Name
-name_of word = option_map (λ n. record { origin = n.0; number = n.1 }) (two_numbers 46 max_u8 max_u32 word)
 
 -- the two messages of these names, in this order
 unfoldable pub in_order : Word → Word → Result Claim Unfit

@@ -15,13 +15,14 @@ use Rattle.ct_grammar.specs.declared.unfit.Unfit.{Unfit}
 use Rattle.ct_grammar.specs.declared.unfit.Unfit.TheVariants.{End, Word as Other}
 use Rattle.ct_grammar.specs.declared.wanted.Wanted.{Wanted}
 use Rattle.ct_grammar.specs.declared.wanted.Wanted.TheVariants as wanted
-use Rattle.ct_grammar.specs.Words.{Word, text_of}
+use Rattle.ct_grammar.specs.Words.{Word}
 use Rattle.ct_grammar.specs.Unfits.{◌>>=◌, map_ok}
 use Rattle.ct_grammar.specs.Numbers.{members_of}
-use Rattle.ct_grammar.specs.Leading.{behind_term, whole_first, over}
+use Rattle.ct_grammar.specs.Leading.{behind_term, lone_whole, over}
 use Rattle.ct_grammar.specs.Picks.{pick_first, behind_pick}
 use Rattle.ct_grammar.specs.Acts.{act_first, behind_act}
 use Rattle.ct_grammar.specs.Reasons.{reason_of}
+use Rattle.ct_grammar.specs.Reports.{decisions_of, estimate_of, messages_of, table_of}
 
 -- a phase, by its name
 unfoldable pub phase_of : Word → Option Phase
@@ -51,13 +52,6 @@ unfoldable pub lone_pick : List Word → Result Pick Unfit
 lone_pick words = do
   r ← pick_first wanted.Envelope words
   _ ← over (behind_term (behind_pick r.0) r.1) r.1
-  Ok r.0
-
--- an instance, a round or an amount, alone
-unfoldable pub lone_whole : Wanted → List Word → Result ℕ Unfit
-lone_whole what words = do
-  r ← whole_first what words
-  _ ← over (behind_term wanted.Nothing r.1) r.1
   Ok r.0
 
 -- a phase, alone
@@ -119,26 +113,11 @@ number_fact name words =
     if bytes_eq name (codes "heard") then map_ok Heard (lone_set words) else (
     if bytes_eq name (codes "acked") then map_ok Acked (lone_set words) else act_fact name words)))))
 
--- a word at least
-unfoldable pub some_words : List Word → Result (Unit {0}) Unfit
-some_words [] = Err (End wanted.Quoted)
-some_words (word ∷ words) = Ok tt
-
--- the fact of this name quotes words
-unfoldable pub quotes_words : Word → Bool
-quotes_words name =
-    bytes_eq name (codes "received") || (bytes_eq name (codes "decided") || (bytes_eq name (codes "delivered")
-    || (bytes_eq name (codes "table") || bytes_eq name (codes "estimate"))))
-
--- the fact of this name that quotes the text
-unfoldable pub text_fact : Word → List ℕ → Fact
-text_fact name text =
-    if bytes_eq name (codes "received") then Received text else (
-    if bytes_eq name (codes "decided") then Decided text else (
-    if bytes_eq name (codes "delivered") then Delivered text else (
-    if bytes_eq name (codes "table") then Table text else Estimate text)))
-
 -- the fact of this name
 unfoldable pub named_fact : Word → List Word → Result Fact Unfit
 named_fact name words =
-    if quotes_words name then map_ok (λ _. text_fact name (text_of words)) (some_words words) else number_fact name words
+    if bytes_eq name (codes "received") then map_ok Received (messages_of words) else (
+    if bytes_eq name (codes "decided") then map_ok Decided (decisions_of words) else (
+    if bytes_eq name (codes "delivered") then map_ok Delivered (messages_of words) else (
+    if bytes_eq name (codes "table") then map_ok Table (table_of words) else (
+    if bytes_eq name (codes "estimate") then map_ok Estimate (estimate_of words) else number_fact name words))))

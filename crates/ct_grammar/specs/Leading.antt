@@ -5,9 +5,9 @@ use Rattle.std.specs.Str.{bytes_eq}
 use Rattle.ct_grammar.specs.declared.unfit.Unfit.{Unfit}
 use Rattle.ct_grammar.specs.declared.unfit.Unfit.TheVariants.{End, Word as Other}
 use Rattle.ct_grammar.specs.declared.wanted.Wanted.{Wanted}
-use Rattle.ct_grammar.specs.declared.wanted.Wanted.TheVariants.{Set, Sender, And, SenderOrAnd, Or}
+use Rattle.ct_grammar.specs.declared.wanted.Wanted.TheVariants.{Set, Sender, Nothing, And, SenderOrAnd, Or}
 use Rattle.ct_grammar.specs.Words.{Word}
-use Rattle.ct_grammar.specs.Unfits.{map_ok}
+use Rattle.ct_grammar.specs.Unfits.{◌>>=◌, map_ok}
 use Rattle.ct_grammar.specs.Numbers.{number_in, members_of, max_u8, max_u32}
 
 -- a number from low to high, and the words behind it
@@ -42,3 +42,10 @@ or_and wanted = And
 unfoldable pub behind_term : Wanted → List Word → Wanted
 behind_term wanted [] = wanted
 behind_term wanted (word ∷ words) = if bytes_eq word (codes "or") then Or else or_and wanted
+
+-- an instance, a round or an amount, alone
+unfoldable pub lone_whole : Wanted → List Word → Result ℕ Unfit
+lone_whole what words = do
+  r ← whole_first what words
+  _ ← over (behind_term Nothing r.1) r.1
+  Ok r.0

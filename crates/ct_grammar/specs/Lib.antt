@@ -6,12 +6,14 @@ pub mod Goals
 pub mod Leading
 pub mod Lines
 pub mod Misfits
+pub mod Names
 pub mod Near
 pub mod Numbers
 pub mod Picks
 pub mod Places
 pub mod Questions
 pub mod Reasons
+pub mod Reports
 pub mod Sides
 pub mod Stated
 pub mod Texts

@@ -4,9 +4,9 @@ use Rattle.ct_grammar.specs.declared.wanted.Wanted.{Wanted}
 use Rattle.ct_grammar.specs.declared.wanted.Wanted.TheVariants.{Beginning, GroupSize, CellCount, Bound, Member, Whom, Set, Side, Bar}
 use Rattle.ct_grammar.specs.declared.wanted.Wanted.TheVariants.{Doing, Act, Command, Register, Amount, Envelope, Loss, Serial, Message}
 use Rattle.ct_grammar.specs.declared.wanted.Wanted.TheVariants.{Place, Rounds, Until, Fact, Phase, Reason, Instance, Round, Waiting}
-use Rattle.ct_grammar.specs.declared.wanted.Wanted.TheVariants.{Members, Quoted, Nothing, Suspecting, Sender, Statement}
+use Rattle.ct_grammar.specs.declared.wanted.Wanted.TheVariants.{Members, Messages, Decisions, Registers, Estimate, Ts, Nothing}
 use Rattle.ct_grammar.specs.declared.wanted.Wanted.TheVariants.{SenderOrStatement, Term, Extent, Count, Chosen, Up, Unseen, Again}
-use Rattle.ct_grammar.specs.declared.wanted.Wanted.TheVariants.{And, SenderOrAnd, Or}
+use Rattle.ct_grammar.specs.declared.wanted.Wanted.TheVariants.{Suspecting, Sender, Statement, And, SenderOrAnd, Or}
 use Rattle.ct_grammar.specs.Words.{Word}
 
 -- the words that begin lines
@@ -103,7 +103,11 @@ told_at Instance = named (codes ">=" ∷ []) (codes "is no instance") (codes "an
 told_at Round = named (codes ">=" ∷ []) (codes "is no round") (codes "a round")
 told_at Waiting = named (codes ">=" ∷ []) (codes "is no number of envelopes") (codes "a number of envelopes")
 told_at Members = unnamed (codes "is neither a list of members nor -") (codes "a list of members or -")
-told_at Quoted = unnamed (codes "is no text") (codes "a text")
+told_at Messages = unnamed (codes "is no message, as 1.1") (codes "a message or -")
+told_at Decisions = unnamed (codes "is no decision of a later instance, as 1:1.1,2.1") (codes "a decision or -")
+told_at Registers = unnamed (codes "is no other register with its value, as 0=7") (codes "a register with its value or -")
+told_at Estimate = unnamed (codes "is no value, as {1.1,2.1}") (codes "a value or -")
+told_at Ts = unnamed (codes "is not ts") (codes "ts")
 told_at Term =
     named (codes "never" ∷ codes "ever" ∷ codes "all" ∷ codes "any" ∷ codes "up" ∷ [])
     (codes "is neither ever, never, a member, a list of members, all, any nor up")

@@ -1,17 +1,18 @@
 //! What goals say of members, in words.
 
 ghost use Rattle.std.specs.Prelude.{◌≡◌, IfOk, map};
-ghost use Rattle.ct_grammar.specs.Claims.{extent_of, counted, at_least, one_number, decided, name_of, in_order, before, delivered};
+ghost use Rattle.ct_grammar.specs.Claims.{extent_of, counted, at_least, one_number, decided, in_order, before, delivered};
 ghost use Rattle.ct_grammar.specs.Claims.{chosen, refused_choice, refused, word_alone, followed, lone_claim, step_claim, event_claim};
 ghost use Rattle.ct_grammar.specs.Claims.{amount_claim, or_fact, claim_of};
 ghost use Rattle.ct_grammar.specs.Unfits.{map_ok};
 ghost use Rattle.ct_grammar.specs.declared.claim.Claim.{Claim};
 
-use crate::claim::{Amount, Claim, Extent, Name};
-use crate::expecting::{lone_whole, named_fact};
-use crate::leading::{behind_term, over};
+use crate::claim::{Amount, Claim, Extent};
+use crate::expecting::named_fact;
+use crate::leading::{behind_term, lone_whole, over};
 use crate::naming::reason;
-use crate::numbers::{byte, name_of_message, whole};
+use crate::numbers::{byte, whole};
+use crate::reading_names::name;
 use crate::reason::Reason;
 use crate::unfit::Unfit;
 use crate::wanted::Wanted;
@@ -88,24 +89,15 @@ fn decided(count: Option<Result<Claim, Unfit>>, words: &[&str]) -> Option<Result
     }
 }
 
-// The name of a message.
-#[tactic(auto, unfolding(crate::specs::Claims::name_of))]
-fn name(word: &str) -> Option<Name>
-    ensures { result ≡ name_of word.now }
-{
-    let (origin, number) = name_of_message(word.as_bytes())?;
-    Some(Name { origin, number })
-}
-
 // The two messages of these names, in this order.
 #[tactic(auto, unfolding(crate::specs::Claims::in_order))]
 fn in_order(first: &str, second: &str) -> Result<Claim, Unfit>
     ensures { result ≡ in_order first.now second.now }
 {
-    let Some(first) = name(first) else {
+    let Some(first) = name(first.as_bytes()) else {
         return Err(Unfit::Word(2, Wanted::Message));
     };
-    let Some(second) = name(second) else {
+    let Some(second) = name(second.as_bytes()) else {
         return Err(Unfit::Word(0, Wanted::Message));
     };
     Ok(Claim::Before(first, second))

@@ -1,21 +1,23 @@
 //! What lines expect, in words.
 
 ghost use Rattle.std.specs.Prelude.{◌≡◌, IfOk, map};
-ghost use Rattle.ct_grammar.specs.Facts.{phase_of, short_fact, ended, lone_act, lone_pick, lone_whole, phase_first, reason_first};
+ghost use Rattle.ct_grammar.specs.Facts.{phase_of, short_fact, ended, lone_act, lone_pick, phase_first, reason_first};
 ghost use Rattle.ct_grammar.specs.Facts.{refusal_of, plain_fact};
-ghost use Rattle.ct_grammar.specs.Facts.{act_fact, number_fact, set_or_dash, lone_set, some_words, quotes_words, text_fact, named_fact};
+ghost use Rattle.ct_grammar.specs.Facts.{act_fact, number_fact, set_or_dash, lone_set, named_fact};
+ghost use Rattle.ct_grammar.specs.Reports.{decisions_of, messages_of};
+ghost use Rattle.ct_grammar.specs.Unfits.{map_ok};
+ghost use Rattle.ct_grammar.specs.declared.fact.Fact.TheVariants.{Received, Decided, Delivered};
 
 use crate::act::Act;
 use crate::acting::{act_first, behind_act};
 use crate::fact::Fact;
-use crate::joining::joined;
-use crate::leading::{behind_term, over, whole_first};
+use crate::leading::{behind_term, lone_whole, over};
 use crate::naming::reason;
 use crate::numbers::members;
 use crate::pick::Pick;
 use crate::picking::{behind_pick, pick_first};
 use crate::reason::Reason;
-use crate::text::Text;
+use crate::reporting::{decisions, estimate, messages, table};
 use crate::unfit::Unfit;
 use crate::wanted::Wanted;
 use ct_model::Phase;
@@ -77,16 +79,6 @@ fn lone_pick(words: &[&str]) -> Result<Pick, Unfit>
     let (pick, rest) = pick_first(words, Wanted::Envelope)?;
     over(rest, behind_term(rest, behind_pick(pick)))?;
     Ok(pick)
-}
-
-/// An instance, a round or an amount, alone.
-#[tactic(auto, unfolding(crate::specs::Facts::lone_whole))]
-pub(crate) fn lone_whole(words: &[&str], wanted: Wanted) -> Result<u32, Unfit>
-    ensures { result ≡ lone_whole wanted (map (λ word. word.now) words.now) }
-{
-    let (n, rest) = whole_first(words, wanted)?;
-    over(rest, behind_term(rest, Wanted::Nothing))?;
-    Ok(n)
 }
 
 // A phase, alone.
@@ -201,43 +193,6 @@ fn lone_set(words: &[&str]) -> Result<MemberSet, Unfit>
     Ok(set)
 }
 
-// A word at least.
-#[tactic(auto, unfolding(crate::specs::Facts::some_words))]
-fn some_words(words: &[&str]) -> Result<(), Unfit>
-    ensures { result ≡ some_words (map (λ word. word.now) words.now) }
-{
-    match words {
-        [] => Err(Unfit::End(Wanted::Quoted)),
-        [_, ..] => Ok(()),
-    }
-}
-
-// Whether the fact of this name quotes words.
-#[tactic(auto, unfolding(crate::specs::Facts::quotes_words))]
-fn quotes_words(name: &str) -> bool
-    ensures { result ≡ quotes_words name.now }
-{
-    name == "received"
-        || name == "decided"
-        || name == "delivered"
-        || name == "table"
-        || name == "estimate"
-}
-
-// The fact of this name that quotes the text.
-#[tactic(auto, unfolding(crate::specs::Facts::text_fact))]
-fn text_fact(name: &str, text: Text) -> Fact
-    ensures { result ≡ text_fact name.now text }
-{
-    match name {
-        "received" => Fact::Received(text),
-        "decided" => Fact::Decided(text),
-        "delivered" => Fact::Delivered(text),
-        "table" => Fact::Table(text),
-        _ => Fact::Estimate(text),
-    }
-}
-
 /// The fact of this name.
 #[tactic(auto, unfolding(crate::specs::Facts::named_fact))]
 pub(crate) fn named_fact(
@@ -247,11 +202,45 @@ pub(crate) fn named_fact(
 ) -> Result<Result<Fact, Unfit>, AllocError>
     ensures { IfOk result (λ fact. fact ≡ named_fact name.now (map (λ word. word.now) words.now)) }
 {
-    if !quotes_words(name) {
-        return Ok(number_fact(name, words));
+    match name {
+        "received" => received(alloc, words),
+        "decided" => decided(alloc, words),
+        "delivered" => delivered(alloc, words),
+        "table" => match table(words) {
+            Ok(table) => Ok(Ok(Fact::Table(table))),
+            Err(unfit) => Ok(Err(unfit)),
+        },
+        "estimate" => match estimate(alloc, words)? {
+            Ok(estimate) => Ok(Ok(Fact::Estimate(estimate))),
+            Err(unfit) => Ok(Err(unfit)),
+        },
+        _ => Ok(number_fact(name, words)),
     }
-    match some_words(words) {
+}
+
+fn received(alloc: Global, words: &[&str]) -> Result<Result<Fact, Unfit>, AllocError>
+    ensures { IfOk result (λ fact. fact ≡ map_ok Received (messages_of (map (λ word. word.now) words.now))) }
+{
+    match messages(alloc, words)? {
+        Ok(names) => Ok(Ok(Fact::Received(names))),
         Err(unfit) => Ok(Err(unfit)),
-        Ok(()) => Ok(Ok(text_fact(name, joined(alloc, words)?))),
+    }
+}
+
+fn delivered(alloc: Global, words: &[&str]) -> Result<Result<Fact, Unfit>, AllocError>
+    ensures { IfOk result (λ fact. fact ≡ map_ok Delivered (messages_of (map (λ word. word.now) words.now))) }
+{
+    match messages(alloc, words)? {
+        Ok(names) => Ok(Ok(Fact::Delivered(names))),
+        Err(unfit) => Ok(Err(unfit)),
+    }
+}
+
+fn decided(alloc: Global, words: &[&str]) -> Result<Result<Fact, Unfit>, AllocError>
+    ensures { IfOk result (λ fact. fact ≡ map_ok Decided (decisions_of (map (λ word. word.now) words.now))) }
+{
+    match decisions(alloc, words)? {
+        Ok(decisions) => Ok(Ok(Fact::Decided(decisions))),
+        Err(unfit) => Ok(Err(unfit)),
     }
 }

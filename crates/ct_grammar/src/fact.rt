@@ -1,13 +1,16 @@
 //! What lines expect of members.
 
 use crate::act::Act;
+use crate::decisions::Decisions;
+use crate::estimate::Estimate;
+use crate::names::Names;
 use crate::pick::Pick;
 use crate::reason::Reason;
-use crate::text::Text;
 use ct_model::Phase;
 use ct_names::{Instance, MemberSet, Round};
+use ct_table::Table;
 
-/// What a line of a schedule expects of a member. The texts are what stands behind the fact's name.
+/// What a line of a schedule expects of a member.
 #[derive(Drop)]
 pub enum Fact {
     /// `up`
@@ -22,14 +25,14 @@ pub enum Fact {
     Round(Round),
     /// `phase Gather`
     Phase(Phase),
-    /// `received 1.1 2.1`
-    Received(Text),
-    /// `decided 1:1.1,2.1`
-    Decided(Text),
-    /// `delivered 1.1 2.1`
-    Delivered(Text),
-    /// `table 0=7 1=12`
-    Table(Text),
+    /// `received 1.1 2.1`: the messages that it received, in order.
+    Received(Names),
+    /// `decided 1:1.1,2.1`: the decisions that it got.
+    Decided(Decisions),
+    /// `delivered 1.1 2.1`: the messages that it delivered, in order.
+    Delivered(Names),
+    /// `table 0=7 1=12`: its table, whose other registers hold 0.
+    Table(Table),
     /// `refuses enter Decided`: the act is refused, for this reason.
     Refuses(Act, Reason),
     /// `may enter`: the act would be allowed.
@@ -42,6 +45,6 @@ pub enum Fact {
     Heard(MemberSet),
     /// `acked 1,3`, or `acked -`: the members whose acks of its round it has.
     Acked(MemberSet),
-    /// `estimate {1.1,2.1} ts 1`, or `estimate -`: its estimate and the timestamp.
-    Estimate(Text),
+    /// `estimate {1.1,2.1} ts 1`, or `estimate -`: its estimate, if it has an open instance.
+    Estimate(Option<Estimate>),
 }

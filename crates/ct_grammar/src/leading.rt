@@ -1,7 +1,7 @@
 //! Words that stand first, and what stands behind them.
 
 ghost use Rattle.std.specs.Prelude.{◌≡◌, ◌≤◌, IfOk, map};
-ghost use Rattle.ct_grammar.specs.Leading.{number_first, member_first, whole_first, set_first, over, behind_term, or_and};
+ghost use Rattle.ct_grammar.specs.Leading.{number_first, member_first, whole_first, set_first, over, behind_term, or_and, lone_whole};
 ghost use Rattle.ct_grammar.specs.Unfits.{map_ok};
 
 use crate::numbers::{members, number_in};
@@ -98,4 +98,14 @@ fn or_and(wanted: Wanted) -> Wanted
         Wanted::Sender => Wanted::SenderOrAnd,
         _ => Wanted::And,
     }
+}
+
+/// An instance, a round or an amount, alone.
+#[tactic(auto, unfolding(crate::specs::Leading::lone_whole))]
+pub(crate) fn lone_whole(words: &[&str], wanted: Wanted) -> Result<u32, Unfit>
+    ensures { result ≡ lone_whole wanted (map (λ word. word.now) words.now) }
+{
+    let (n, rest) = whole_first(words, wanted)?;
+    over(rest, behind_term(rest, Wanted::Nothing))?;
+    Ok(n)
 }

@@ -23,9 +23,10 @@
 //! COMMAND              set R V, add R V, copy F T
 //! PICK                 #SERIAL, KIND, KIND from P
 //! KIND                 data O.N, est I/R, prop I/R, ack I/R, nack I/R, dec I/R
-//! FACT                 up, crashed, idle, instance I, round R, phase NAME, received WORDS, decided WORDS, delivered WORDS,
-//!                      table WORDS, estimate WORDS, heard SET, heard -, acked SET, acked -, refuses ACT REASON, may ACT,
-//!                      waiting N, waits PICK
+//! FACT                 up, crashed, idle, instance I, round R, phase NAME, received O.N O.N .., decided I:O.N,O.N .. (rising
+//!                      instances; I:- for no message), delivered O.N O.N .., table R=V R=V .. (no register twice, V from 1),
+//!                      estimate {O.N,O.N} ts R, heard SET, acked SET, refuses ACT REASON, may ACT, waiting N, waits PICK;
+//!                      received, decided, delivered, table, estimate, heard and acked also with - for none
 //! REASON               the name of a refusal by the rules, as Idle or Full(Steps), NotThere or Across
 //! ```
 //!
@@ -35,7 +36,7 @@
 //!
 //! A member or a register that no group or table has is understood, as member 0; the step is refused.
 //!
-//! A goal says what a run shows: each of its terms holds. The word `and` parts them, so what a term quotes has no such word.
+//! A goal says what a run shows: each of its terms holds. The word `and` parts them.
 //!
 //! ```text
 //! GOAL                 TERM, TERM and TERM ..
@@ -60,6 +61,9 @@ mod carried;
 mod claim;
 mod claiming;
 mod cutting;
+mod decision;
+mod decisions;
+mod estimate;
 mod expecting;
 mod fact;
 mod feeds;
@@ -70,6 +74,7 @@ mod joining;
 mod leading;
 mod line;
 mod misfit;
+mod names;
 mod naming;
 mod naming_members;
 mod near;
@@ -80,7 +85,9 @@ mod places;
 mod play;
 mod question;
 mod reading;
+mod reading_names;
 mod reason;
+mod reporting;
 mod sides;
 mod stating;
 mod term;
@@ -94,6 +101,9 @@ mod words;
 pub use act::Act;
 pub use carried::Carried;
 pub use claim::{Amount, Claim, Extent, Name};
+pub use decision::Decision;
+pub use decisions::Decisions;
+pub use estimate::Estimate;
 pub use fact::Fact;
 pub use feeds::{behind, first_feed, text_in};
 pub use given::Given;
@@ -101,6 +111,7 @@ pub use goal::Goal;
 pub use goals::goal_of;
 pub use line::Line;
 pub use misfit::{LONGEST_WORD, Misfit, push_act_hint};
+pub use names::Names;
 pub use numbers::members;
 pub use pick::Pick;
 pub use play::Play;

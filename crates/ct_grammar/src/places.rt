@@ -143,7 +143,11 @@ pub(crate) fn names(wanted: Wanted) -> &'static [&'static str]
         | Wanted::Place
         | Wanted::Until
         | Wanted::Members
-        | Wanted::Quoted
+        | Wanted::Messages
+        | Wanted::Decisions
+        | Wanted::Registers
+        | Wanted::Estimate
+        | Wanted::Ts
         | Wanted::Count
         | Wanted::Up
         | Wanted::Unseen
@@ -205,7 +209,11 @@ pub(crate) fn denied(wanted: Wanted) -> &'static str
         Wanted::Round => "is no round",
         Wanted::Waiting => "is no number of envelopes",
         Wanted::Members => "is neither a list of members nor -",
-        Wanted::Quoted => "is no text",
+        Wanted::Messages => "is no message, as 1.1",
+        Wanted::Decisions => "is no decision of a later instance, as 1:1.1,2.1",
+        Wanted::Registers => "is no other register with its value, as 0=7",
+        Wanted::Estimate => "is no value, as {1.1,2.1}",
+        Wanted::Ts => "is not ts",
         Wanted::Term => "is neither ever, never, a member, a list of members, all, any nor up",
         Wanted::Whom => "is neither a member, a list of members, all, any nor up",
         Wanted::Extent => "is neither a number nor >=",
@@ -255,7 +263,11 @@ pub(crate) fn due(wanted: Wanted) -> &'static str
         Wanted::Round => "a round",
         Wanted::Waiting => "a number of envelopes",
         Wanted::Members => "a list of members or -",
-        Wanted::Quoted => "a text",
+        Wanted::Messages => "a message or -",
+        Wanted::Decisions => "a decision or -",
+        Wanted::Registers => "a register with its value or -",
+        Wanted::Estimate => "a value or -",
+        Wanted::Ts => "ts",
         Wanted::Term => "ever, never, a member, a list of members, all, any or up",
         Wanted::Whom => "a member, a list of members, all, any or up",
         Wanted::Extent => "a number or >=",

@@ -57,8 +57,16 @@ pub(crate) enum Wanted {
     Waiting,
     /// Which members, or `-`.
     Members,
-    /// The words of a line of the report.
-    Quoted,
+    /// Messages, or `-`.
+    Messages,
+    /// Decisions of rising instances, or `-`.
+    Decisions,
+    /// Registers with their values, or `-`.
+    Registers,
+    /// An estimate, or `-`.
+    Estimate,
+    /// The word `ts`.
+    Ts,
     /// When a claim holds, or of whom.
     Term,
     /// Of whom a claim has to hold.

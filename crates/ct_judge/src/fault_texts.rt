@@ -212,7 +212,7 @@ fn push_goal_unmet(
 ) -> Result<(), AllocError>
     ensures { OnOk result (Adds text.old text.new (goal_unmet stage.now member (unmet stage.now goal.now))) }
 {
-    let Some(term) = unmet(alloc, stage, goal)? else {
+    let Some(term) = unmet(stage, goal)? else {
         return text.push_str("not met");
     };
     match member {

@@ -1,7 +1,6 @@
 -- What is expected and shown is so.
 pub mod Acts
-pub mod Decimals
 pub mod Members
-pub mod Names
 pub mod Showing
 pub mod Steps
+pub mod Values

@@ -1,31 +1,35 @@
 -- What expectations say, in words of states, steps and envelopes.
-use Rattle.std.specs.Prelude.{◌≡◌, ◌⊎◌, ◌≤◌, ℕ, true, false, List, codes, length, Some, None, Ok}
+use Rattle.std.specs.Prelude.{◌≡◌, ◌⊎◌, ◌≤◌, ℕ, true, false, List, length, map, Some, None, Ok}
 use Rattle.ct_names.specs.Group.{everyone}
 use Rattle.ct_names.specs.Membership.{IsIn}
+use Rattle.ct_names.specs.Message.{Message}
 use Rattle.ct_names.specs.Value.{Value}
 use Rattle.ct_model.specs.Cause.{cause}
 use Rattle.ct_model.specs.declared.step.Step.{Step}
 use Rattle.ct_model.specs.declared.step.Step.TheVariants as step
+use Rattle.ct_model.specs.declared.wire.Wire.{Wire}
 use Rattle.ct_model.specs.declared.wire.Wire.TheVariants.{Ack, Est}
-use Rattle.ct_model.specs.Received.{received_by}
+use Rattle.ct_model.specs.Received.{decided, received_by}
 use Rattle.ct_model.specs.Rehearsal.{Rehearsal, line_of, state_of}
 use Rattle.ct_model.specs.State.{delivered, is_crashed}
 use Rattle.ct_table.specs.Table.{table}
 use Rattle.ct_world.specs.World.{member_of}
-use Rattle.ct_text.specs.Lists.{decisions_text, messages_text, table_text}
-use Rattle.ct_text.specs.Shapes.{estimate_text}
 use Rattle.ct_grammar.specs.declared.act.Act.{Act}
 use Rattle.ct_grammar.specs.declared.act.Act.TheVariants.{Receive, Postpone, Lose, Repeat, LoseFrom}
+use Rattle.ct_grammar.specs.declared.claim.Name.{Name}
+use Rattle.ct_grammar.specs.declared.decision.Decision.{Decision}
+use Rattle.ct_grammar.specs.declared.estimate.Estimate.{Estimate}
 use Rattle.ct_grammar.specs.declared.fact.Fact.{Fact}
 use Rattle.ct_grammar.specs.declared.fact.Fact.TheVariants.{Up, Crashed, Idle, Instance, Round, Phase as InPhase}
 use Rattle.ct_grammar.specs.declared.fact.Fact.TheVariants.{Received, Decided, Delivered, Table, Refuses}
-use Rattle.ct_grammar.specs.declared.fact.Fact.TheVariants.{May, Waiting, Waits, Heard, Acked, Estimate}
+use Rattle.ct_grammar.specs.declared.fact.Fact.TheVariants.{May, Waiting, Waits, Heard, Acked, Estimate as Estimated}
 use Rattle.ct_grammar.specs.declared.pick.Pick.{Pick}
 use Rattle.ct_grammar.specs.declared.pick.Pick.TheVariants.{Serial, First}
 use Rattle.ct_grammar.specs.declared.reason.Reason.{Reason}
 use Rattle.ct_grammar.specs.declared.reason.Reason.TheVariants.{NotThere, Across, Rules}
 use Rattle.ct_play.specs.Acting.{step_of}
 use Rattle.ct_play.specs.Cuts.{is_near}
+use Rattle.ct_play.specs.Facts.{decision_count}
 use Rattle.ct_play.specs.Picking.{is_so, sender_of, was_sent}
 use Rattle.ct_play.specs.Played.{Played}
 use Rattle.ct_laws.specs.Facts.{HasGot, Stands}
@@ -92,6 +96,23 @@ IsSetOf P set = (q : ℕ) → IsIn q everyone → (P q → IsIn q set) × (IsIn 
 abbrev pub HasEstimate : Rehearsal → ℕ → ℕ → ℕ → Type 0
 HasEstimate w p round q = (v : Value) × (ts : ℕ) × HasGot w p (Est (member_of w p).last round q v ts)
 
+-- ---- messages
+
+abbrev pub the_name : Message → Name
+the_name m = record { origin = m.origin; number = m.number }
+
+-- the names are those of the messages, as many and in any order
+abbrev pub AreThose : List Name → List Message → Type 0
+AreThose names list = (length names ≡ length list) × ((m : Message) → IsIn m list → IsIn (the_name m) names)
+
+-- it was decided for the instance
+abbrev pub IsDecided : List (Wire Value) → Decision → Type 0
+IsDecided got d = (v : Value) × (decided got d.instance ≡ Some v) × AreThose d.names v
+
+-- each of these was, and so many decisions were got
+abbrev pub AreDecided : List (Wire Value) → List Decision → Type 0
+AreDecided got decisions = ((d : Decision) → IsIn d decisions → IsDecided got d) × (decision_count got ≡ length decisions)
+
 -- ---- facts
 
 -- the fact holds of member p
@@ -102,10 +123,10 @@ IsSo s p Idle = (member_of s.rehearsal p).current ≡ None
 IsSo s p (Instance k) = (member_of s.rehearsal p).last ≡ k
 IsSo s p (Round r) = Stands s.rehearsal p (λ c. c.round ≡ r)
 IsSo s p (InPhase f) = Stands s.rehearsal p (λ c. c.phase ≡ f)
-IsSo s p (Received text) = text ≡ messages_text 32 (received_by (state_of s.rehearsal) p)
-IsSo s p (Decided text) = text ≡ decisions_text (member_of s.rehearsal p).got
-IsSo s p (Delivered text) = text ≡ messages_text 32 (delivered (member_of s.rehearsal p))
-IsSo s p (Table text) = text ≡ table_text (table (delivered (member_of s.rehearsal p)))
+IsSo s p (Received names) = names ≡ map the_name (received_by (state_of s.rehearsal) p)
+IsSo s p (Decided decisions) = AreDecided (member_of s.rehearsal p).got decisions
+IsSo s p (Delivered names) = names ≡ map the_name (delivered (member_of s.rehearsal p))
+IsSo s p (Table values) = values ≡ table (delivered (member_of s.rehearsal p))
 IsSo s p (Refuses act reason) = IsRefusedFor s p act reason
 IsSo s p (May act) = ComesTo s.rehearsal p act (λ step. (cause s.rehearsal step ≡ None) × IsOpen s step)
 IsSo s p (Waiting k) = length (line_of s.rehearsal p) ≡ k
@@ -113,6 +134,6 @@ IsSo s p (Waits pick) = HasWaiting s.rehearsal p pick
 IsSo s p (Heard set) = IsSetOf (λ q. Stands s.rehearsal p (λ c. HasEstimate s.rehearsal p c.round q)) set
 IsSo s p (Acked set) =
     IsSetOf (λ q. Stands s.rehearsal p (λ c. HasGot s.rehearsal p (Ack (member_of s.rehearsal p).last c.round q))) set
-IsSo s p (Estimate text) =
-    (((member_of s.rehearsal p).current ≡ None) × (text ≡ codes "-"))
-    ⊎ Stands s.rehearsal p (λ c. text ≡ estimate_text (Some (c.estimate, c.ts)))
+IsSo s p (Estimated estimate) =
+    (((member_of s.rehearsal p).current ≡ None) × (estimate ≡ None))
+    ⊎ Stands s.rehearsal p (λ c. (e : Estimate) × (estimate ≡ Some e) × AreThose e.names c.estimate × (e.ts ≡ c.ts))

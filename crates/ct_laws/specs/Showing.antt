@@ -29,7 +29,8 @@ use Rattle.ct_grammar.specs.declared.term.When.TheVariants.{Now, Ever, Never}
 use Rattle.ct_grammar.specs.declared.term.Whom.{Whom}
 use Rattle.ct_grammar.specs.declared.term.Whom.TheVariants as whom
 use Rattle.ct_progress.specs.Progress.{is_settled, is_stuck}
-use Rattle.ct_play.specs.Claims.{amount_of, is_named, was_other}
+use Rattle.ct_play.specs.Claims.{amount_of, was_other}
+use Rattle.ct_play.specs.Facts.{is_named}
 use Rattle.ct_play.specs.Picking.{is_carried, is_so}
 use Rattle.ct_play.specs.Played.{Played, first_part}
 use Rattle.ct_laws.specs.Expectations.{HasEstimate, IsSo}

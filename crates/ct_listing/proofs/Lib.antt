@@ -5,7 +5,7 @@ pub mod Leading
 pub mod Playing
 pub mod Seen
 pub mod Shown
-pub mod Quoted
+pub mod Reported
 pub mod Headed
 pub mod Growing
 pub mod Present

@@ -1,4 +1,4 @@
--- Words that can be quoted, with spaces between them.
+-- Words of digits and marks between them, with spaces between the words.
 use Rattle.std.proofs.Common.{◌≡◌, ◌<◌, ◌/◌, ◌%◌, ℕ, zero, suc, Bool, true, false, not, List, [], ◌∷◌, ◌++◌, refl, ◌∙◌, arith, length, eqb}
 use Rattle.std.proofs.Common.{cond}
 use Rattle.std.specs.Prelude.{decimal, nat_le, ◌&&◌}
@@ -6,14 +6,13 @@ use Rattle.std.specs.List.{join_with_byte, list_all, concat}
 use Rattle.std.specs.Fmt.{digits, digits_onto, digit_glyph}
 use Rattle.std.proofs.lemmas.Bool.Decides.{nat_tests}
 use Rattle.std.proofs.lemmas.List.Folds.{list_all-append}
-use Rattle.ct_grammar.specs.Words.{Word, words_of}
+use Rattle.ct_grammar.specs.Words.{Word}
 use Rattle.ct_judging.specs.Reading.{begins_record}
 use Rattle.ct_grammar.specs.Texts.{is_feed}
 use Rattle.ct_listing.specs.Leading.{one_line}
 use Rattle.ct_names.proofs.Lists.{both-left, both-right}
-use Rattle.ct_print.proofs.TextWords.{is_letter, is_word, joined_reads, words_from}
 
--- a byte that is no letter, and neither parts words nor begins a comment or a record
+-- a byte that is no letter, and neither ends a line nor begins a record
 abbrev pub is_mark : ℕ → Bool
 is_mark c = nat_le 36 c && nat_le c 61
 
@@ -70,21 +69,6 @@ marks_are : (test : ℕ → Bool) → ((c : ℕ) → is_mark c ≡ true → test
 marks_are test each [] h = refl
 marks_are test each (c ∷ cs) h =
     rw (each c (both-left (is_mark c) (list_all is_mark cs) h)) (marks_are test each cs (both-right (is_mark c) (list_all is_mark cs) h))
-
-piece_word : (word : Word) → IsPiece word → is_word word ≡ true
-piece_word [] h = absurd (omega (arith, h.some))
-piece_word (c ∷ cs) h =
-    let mark : is_mark c ≡ true = both-left (is_mark c) (list_all is_mark cs) h.marks in
-    let other : eqb c 35 ≡ false = grind (arith, nat_tests) in
-    rw (marks_are is_letter (λ d e. grind (arith, nat_tests)) (c ∷ cs) h.marks, other) refl
-
-pieces_words : (words : List Word) → Pieces words → list_all is_word words ≡ true
-pieces_words [] h = refl
-pieces_words (word ∷ words) h = rw (piece_word word h.0) (pieces_words words h.1)
-
--- pieces with a space between each two are the words of the text
-pub words_back : (words : List Word) → Pieces words → words_of (join_with_byte 32 words) ≡ words
-words_back words h = words_from (join_with_byte 32 words) words (joined_reads words (pieces_words words h))
 
 -- ---- one line
 

@@ -9,7 +9,7 @@ use Rattle.ct_model.specs.Cause.{cause}
 use Rattle.ct_model.specs.declared.step.Step.{Step}
 use Rattle.ct_model.specs.declared.step.Step.TheVariants as step
 use Rattle.ct_grammar.specs.declared.act.Act.{Act}
-use Rattle.ct_grammar.specs.declared.act.Act.TheVariants.{Receive, LoseFrom}
+use Rattle.ct_grammar.specs.declared.act.Act.TheVariants.{LoseFrom}
 use Rattle.ct_grammar.specs.declared.fact.Fact.{Fact}
 use Rattle.ct_grammar.specs.declared.play.Play.TheVariants.{Act as Acts, Expect}
 use Rattle.ct_grammar.specs.declared.who.Who.TheVariants.{One}

@@ -1,7 +1,6 @@
 -- What is there at a member.
-use Rattle.std.proofs.Common.{◌≡◌, ◌≤◌, ℕ, Bool, true, false, List, [], ◌++◌, refl, sym, ap, ◌∙◌, Option, Some, None}
-use Rattle.std.specs.Prelude.{codes, decimal, is_some, option_map, ◌&&◌}
-use Rattle.std.specs.Str.{bytes_eq}
+use Rattle.std.proofs.Common.{◌≡◌, ◌≤◌, ℕ, Bool, true, false, refl, sym, eq-eqb, Option, Some, None}
+use Rattle.std.specs.Prelude.{is_none, option_map, ◌&&◌}
 use Rattle.ct_names.specs.Group.{is_member}
 use Rattle.ct_model.specs.declared.phase.Phase.{Phase}
 use Rattle.ct_model.specs.declared.phase.Phase.TheVariants.{Rest}
@@ -9,14 +8,13 @@ use Rattle.ct_model.specs.Rehearsal.{state_of}
 use Rattle.ct_model.specs.State.{is_crashed}
 use Rattle.ct_world.specs.World.{member_of}
 use Rattle.ct_text.specs.Standing.{instance_of}
-use Rattle.ct_grammar.specs.declared.fact.Fact.TheVariants.{Up, Crashed, Idle, Instance, Round, Phase as InPhase, Delivered, Table}
+use Rattle.ct_grammar.specs.declared.fact.Fact.TheVariants.{Up, Crashed, Idle, Instance, Round, Phase as InPhase}
 use Rattle.ct_grammar.specs.Numbers.{max_u32}
 use Rattle.ct_print.specs.Facts.{fact_text}
-use Rattle.ct_play.specs.Facts.{open_text, place_of, there}
+use Rattle.ct_play.specs.Facts.{place_of}
 use Rattle.ct_play.specs.Played.{Played}
 use Rattle.ct_listing.specs.Expecting.{IsThere}
 use Rattle.ct_listing.proofs.OneLine.{decimal_line}
-use Rattle.ct_listing.proofs.Quoted.{delivered_there, same_text, table_there}
 
 module _ (s : Played) (p : ℕ) where
   crash_mark : (r : Bool) → is_member s.rehearsal.setting.members p ≡ true →
@@ -37,7 +35,7 @@ module _ (s : Played) (p : ℕ) where
       IsThere s p (Instance i)
   unfolding fact_text instance_of
   instance_there i member e small = record {
-    same = same_text (decimal (member_of s.rehearsal p).last) (decimal i) (ap decimal (sym (rw (member, instance_of) at e)));
+    same = eq-eqb (member_of s.rehearsal p).last i (sym (rw (member, instance_of) at e));
     fits = small;
     line = decimal_line i;
   }
@@ -50,14 +48,14 @@ module _ (s : Played) (p : ℕ) where
     line = refl;
   }
     where
-      closed : {A B : Type 0} (f : A → B) (o : Option A) → option_map f o ≡ None → bytes_eq (open_text (is_some o)) (codes "idle") ≡ true
+      closed : {A B : Type 0} (f : A → B) (o : Option A) → option_map f o ≡ None → is_none o ≡ true
       closed f None e = refl
       closed f (Some x) e = absurd (cc)
 
   pub round_there : (r : ℕ) (phase : Phase) → place_of s.rehearsal p ≡ Some (r, phase) → r ≤ max_u32 → IsThere s p (Round r)
   unfolding fact_text
   round_there r phase e small = record {
-    same = rw e (same_text (decimal r) (decimal r) refl);
+    same = rw e (eq-eqb r r refl);
     fits = small;
     line = decimal_line r;
   }
@@ -66,10 +64,3 @@ module _ (s : Played) (p : ℕ) where
   unfolding fact_text
   phase_there r Rest e = record { same = rw e refl; fits = tt; line = refl }
   phase_there r _ e = record { same = rw e refl; fits = tt; line = refl }
-
-  -- the texts that are appended to nothing
-  pub delivered_pushed : (old text kind : List ℕ) → old ≡ [] → text ≡ old ++ there s p (Delivered kind) → IsThere s p (Delivered text)
-  delivered_pushed old text kind none e = delivered_there s p text (e ∙ ap (λ (l : List ℕ). l ++ there s p (Delivered kind)) none)
-
-  pub table_pushed : (old text kind : List ℕ) → old ≡ [] → text ≡ old ++ there s p (Table kind) → IsThere s p (Table text)
-  table_pushed old text kind none e = table_there s p text (e ∙ ap (λ (l : List ℕ). l ++ there s p (Table kind)) none)

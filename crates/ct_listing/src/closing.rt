@@ -1,16 +1,20 @@
 //! What a schedule expects in the end.
 
-ghost use Rattle.std.specs.Prelude.{◌≡◌, OnOk, IfOk, IsTrue, Some, string_bytes};
+ghost use Rattle.std.specs.Prelude.{◌≡◌, ◌<◌, ◌≤◌, ℕ, OnOk, IfOk, IsTrue, Some, map, slice_index, string_bytes};
 ghost use Rattle.ct_names.specs.Group.{is_member};
+ghost use Rattle.ct_names.specs.declared.limit.TheConstants.{REGISTERS};
+ghost use Rattle.ct_grammar.specs.Numbers.{max_u64};
 ghost use Rattle.ct_play.specs.Facts.{place_of};
-ghost use Rattle.ct_listing.specs.Expecting.{IsThere};
+ghost use Rattle.ct_listing.specs.Expecting.{IsThere, the_name};
 ghost use Rattle.ct_listing.specs.Leading.{Leads};
+ghost use Rattle.ct_print.specs.Writable.{NamesFit};
 
 use crate::lines::{push_blank, push_fact};
-use ct_grammar::{Fact, Text};
+use ct_grammar::{Fact, Name, Names};
 use ct_model::Phase;
-use ct_names::{Member, Round};
-use ct_play::{Stage, push_there};
+use ct_names::{Member, Message, REGISTERS, Round};
+use ct_play::Stage;
+use ct_table::Table;
 use ct_text::instance_of;
 use std::alloc::{AllocError, Global};
 
@@ -42,7 +46,7 @@ fn push_facts_of(
     push_fact(alloc, text, stage, member, last_instance(stage, member))?;
     push_place(alloc, text, stage, member)?;
     push_fact(alloc, text, stage, member, delivered(alloc, stage, member)?)?;
-    push_fact(alloc, text, stage, member, table(alloc, stage, member)?)
+    push_fact(alloc, text, stage, member, table(stage, member))
 }
 
 // Writes that no instance is open, or the round and the phase.
@@ -97,30 +101,48 @@ fn last_instance(stage: &Stage, member: Member) -> Fact
     Fact::Instance(instance_of(stage.world(), member))
 }
 
+// What it delivered, by names.
 fn delivered(alloc: Global, stage: &Stage, member: Member) -> Result<Fact, AllocError>
     requires { IsTrue (is_member stage.now.rehearsal.setting.members member) }
     ensures { IfOk result (λ fact. IsThere stage.now member fact) }
 {
-    let mut text = String::new(alloc);
-    push_there(
-        &mut text,
-        stage,
-        member,
-        &Fact::Delivered(Text::new(String::new(alloc))),
-    )?;
-    Ok(Fact::Delivered(Text::new(text)))
+    match stage.world().delivered(member) {
+        None => unreachable!(),
+        Some(messages) => Ok(Fact::Delivered(names_of(alloc, messages)?)),
+    }
 }
 
-fn table(alloc: Global, stage: &Stage, member: Member) -> Result<Fact, AllocError>
-    requires { IsTrue (is_member stage.now.rehearsal.setting.members member) }
-    ensures { IfOk result (λ fact. IsThere stage.now member fact) }
+// The names of the messages.
+fn names_of(alloc: Global, messages: &[Message]) -> Result<Names, AllocError>
+    ensures names { IfOk result (λ names. names ≡ map the_name messages.now) }
+    ensures fit { IfOk result NamesFit }
 {
-    let mut text = String::new(alloc);
-    push_there(
-        &mut text,
-        stage,
-        member,
-        &Fact::Table(Text::new(String::new(alloc))),
-    )?;
-    Ok(Fact::Table(Text::new(text)))
+    let mut names = Vec::new(alloc);
+    for message in messages {
+        let origin = message.origin();
+        let number = message.number();
+        names.push(Name { origin, number })?;
+    }
+    Ok(Names::new(names))
+}
+
+fn table(stage: &Stage, member: Member) -> Fact
+    requires { IsTrue (is_member stage.now.rehearsal.setting.members member) }
+    ensures { IsThere stage.now member result }
+{
+    match stage.world().table(member) {
+        None => unreachable!(),
+        Some(table) => Fact::Table(same_table(table)),
+    }
+}
+
+// The table. For its clause each register is read: what stands there is of its type.
+fn same_table(table: &Table) -> Table
+    ensures same { result ≡ table.now }
+    ensures small { (register : ℕ) → register < REGISTERS → slice_index result register ≤ max_u64 }
+{
+    for register in 0..REGISTERS {
+        let _ = table.get(register).unwrap_or(0);
+    }
+    *table
 }

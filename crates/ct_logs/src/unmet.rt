@@ -61,12 +61,11 @@ fn told_of(
     unmet: &Unmet,
 ) -> Result<String, AllocError> {
     let mut text = String::new(alloc);
-    push_told(alloc, &mut text, sources, expected, unmet)?;
+    push_told(&mut text, sources, expected, unmet)?;
     Ok(text)
 }
 
 fn push_told(
-    alloc: Global,
     text: &mut String,
     sources: Sources<'_>,
     expected: &[Expectations],
@@ -76,20 +75,15 @@ fn push_told(
     if let Some(expectations) = expected.get(at) {
         if let Some(expectation) = expectations.list().get(unmet.index) {
             sources.push_numbered(text, unmet.member, expectation.number)?;
-            push_unmet(alloc, text, &unmet.stage, &expectation.goal)?;
+            push_unmet(text, &unmet.stage, &expectation.goal)?;
         }
     }
     push_torn(text, sources.names, sources.texts)
 }
 
 // The first term of the goal that does not hold on the stage, and what is there.
-fn push_unmet(
-    alloc: Global,
-    text: &mut String,
-    stage: &Stage,
-    goal: &Goal,
-) -> Result<(), AllocError> {
-    let Some(term) = unmet(alloc, stage, goal)? else {
+fn push_unmet(text: &mut String, stage: &Stage, goal: &Goal) -> Result<(), AllocError> {
+    let Some(term) = unmet(stage, goal)? else {
         return text.push_str("not met");
     };
     match term.whom {

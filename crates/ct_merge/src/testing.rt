@@ -37,7 +37,6 @@ pub struct Unmet {
 // A run that is gone through: how many own steps each member took in it, and how many first ones were tested of what its log expects.
 #[derive(Drop)]
 struct Walk {
-    alloc: Global,
     stage: Stage,
     taken: Tally,
     tested: Tally,
@@ -87,7 +86,6 @@ impl Walk {
         ensures err { IfErr result IsShort }
     {
         Ok(Walk {
-            alloc,
             stage: Stage::new(alloc, setup)?.with_index(),
             taken: Tally::new(),
             tested: Tally::new(),
@@ -173,7 +171,7 @@ impl Walk {
     {
         let place = self.taken.get(member);
         let mut next = self.tested.get(member);
-        let holds = hold(self.alloc, &self.stage, list, place, &mut next)?;
+        let holds = hold(&self.stage, list, place, &mut next)?;
         self.tested.set(member, next);
         Ok(holds)
     }
@@ -203,7 +201,6 @@ impl Walk {
         ensures stage { result.stage ≡ self.stage }
     {
         let Walk {
-            alloc: _,
             stage,
             taken: _,
             tested,
@@ -220,7 +217,6 @@ impl Walk {
 // else the first that does not hold.
 #[tactic(auto, using(crate::proofs::Walking::holding))]
 fn hold(
-    alloc: Global,
     stage: &Stage,
     list: &[Expectation],
     place: usize,
@@ -235,7 +231,7 @@ fn hold(
         if expectation.place != place {
             return Ok(true);
         }
-        if unmet(alloc, stage, &expectation.goal)?.is_some() {
+        if unmet(stage, &expectation.goal)?.is_some() {
             return Ok(false);
         }
         *next += 1;

@@ -1,11 +1,9 @@
 -- What goals say of members.
-use Rattle.std.specs.Prelude.{ℕ, zero, suc, ◌+◌, ◌-◌, ◌==◌, nat_le, nat_lt, Bool, true, false, not, ◌&&◌, ◌||◌, if◌then◌else◌, List, length}
-use Rattle.std.specs.Prelude.{Option, Some, None, is_some, option_map, position, slice_get, unwrap_or}
+use Rattle.std.specs.Prelude.{ℕ, zero, suc, ◌-◌, ◌==◌, nat_le, nat_lt, Bool, false, not, ◌&&◌, ◌||◌, if◌then◌else◌, List, length}
+use Rattle.std.specs.Prelude.{Option, Some, None, is_some, option_map, position, slice_get}
 use Rattle.std.specs.List.{list_any}
-use Rattle.std.specs.Str.{bytes_eq}
 use Rattle.ct_names.specs.Group.{coordinator, is_member, members}
 use Rattle.ct_names.specs.Message.{Message}
-use Rattle.ct_names.specs.RefusalText.{refusal_text}
 use Rattle.ct_names.specs.Value.{Value}
 use Rattle.ct_names.specs.declared.refusal.Refusal.{Refusal}
 use Rattle.ct_model.specs.Cause.{cause}
@@ -21,10 +19,8 @@ use Rattle.ct_model.specs.declared.wire.Wire.{Wire}
 use Rattle.ct_model.specs.declared.wire.Wire.TheVariants as wire
 use Rattle.ct_choices.specs.Choices.{has_crashed}
 use Rattle.ct_progress.specs.Progress.{is_settled, is_stuck}
-use Rattle.ct_world.specs.Decided.{last_decided}
 use Rattle.ct_world.specs.Standing.{heard_by}
 use Rattle.ct_world.specs.World.{if_member, member_of}
-use Rattle.ct_grammar.specs.Reasons.{reason_text}
 use Rattle.ct_grammar.specs.declared.carried.Carried.{Carried}
 use Rattle.ct_grammar.specs.declared.carried.Carried.TheVariants.{Dec, Prop}
 use Rattle.ct_grammar.specs.declared.claim.Amount.{Amount}
@@ -35,20 +31,12 @@ use Rattle.ct_grammar.specs.declared.claim.Extent.{Extent}
 use Rattle.ct_grammar.specs.declared.claim.Extent.TheVariants.{AtLeast, Exactly}
 use Rattle.ct_grammar.specs.declared.claim.Name.{Name}
 use Rattle.ct_grammar.specs.declared.reason.Reason.{Reason}
-use Rattle.ct_play.specs.Facts.{holds, place_of}
+use Rattle.ct_grammar.specs.declared.reason.Reason.TheVariants.{Rules}
+use Rattle.ct_play.specs.Facts.{decision_count, holds, is_named, is_reason, place_of}
 use Rattle.ct_play.specs.Picking.{is_carried, is_so, waiting_at}
 use Rattle.ct_play.specs.Played.{Played}
 
 -- ---- numbers
-
--- for how many of the instances up to one a decision was got
-abbrev pub decisions_to : List (Wire Value) → ℕ → ℕ
-decisions_to got zero = 0
-decisions_to got (suc k) = decisions_to got k + (if is_some (decided got (suc k)) then 1 else 0)
-
--- for how many instances, begun or not
-unfoldable pub decision_count : List (Wire Value) → ℕ
-decision_count got = decisions_to got (unwrap_or (last_decided got) 0)
 
 -- the round of a place, 0 where there is none
 abbrev pub round_at : Option (ℕ × Phase) → ℕ
@@ -71,10 +59,6 @@ is_enough (AtLeast n) count = nat_le n count
 
 -- ---- messages
 
--- the message has this name
-abbrev pub is_named : Name → Message → Bool
-is_named name m = (m.origin == name.origin) && (m.number == name.number)
-
 -- both places are there, and the first is the smaller one
 abbrev pub is_earlier : Option ℕ → Option ℕ → Bool
 is_earlier None other = false
@@ -89,8 +73,7 @@ stands_before list one other = is_earlier (position (is_named one) list) (positi
 
 -- the rules refuse it, for this reason
 abbrev pub is_refused_so : Reason → Option Refusal → Bool
-is_refused_so reason None = false
-is_refused_so reason (Some refusal) = bytes_eq (refusal_text refusal) (reason_text reason)
+is_refused_so reason cause = is_reason (option_map Rules cause) reason
 
 -- p heard q for its round, and they refuse it the choice of q's estimate for this reason
 abbrev pub refuses_heard : Rehearsal → ℕ → Reason → ℕ → Bool
@@ -193,9 +176,3 @@ says s p claim.Stuck = is_stuck s.rehearsal p
 -- the claim is true of p; of no member of the group it is
 unfoldable pub is_true_of : Played → ℕ → Claim → Bool
 is_true_of s p claim = if is_member s.rehearsal.setting.members p then says s p claim else false
-
--- looking at it takes memory: it compares texts
-abbrev pub takes_memory : Claim → Bool
-takes_memory (claim.Fact fact) = true
-takes_memory (claim.RefusesChoice reason) = true
-takes_memory _ = false

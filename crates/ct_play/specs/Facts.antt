@@ -1,30 +1,42 @@
 -- What facts say of members, and what is there.
-use Rattle.std.specs.Prelude.{ℕ, Bool, ◌==◌, false, List, [], ◌∷◌, codes, decimal, is_some, length, Option, Some, None}
-use Rattle.std.specs.Prelude.{option_map, unwrap_or, Result, Ok, Err, if◌then◌else◌}
-use Rattle.std.specs.List.{concat}
+use Rattle.std.specs.Prelude.{ℕ, zero, suc, ◌+◌, ◌==◌, Bool, true, false, not, ◌&&◌, List, [], ◌∷◌, codes, decimal, length, Option, Some, None}
+use Rattle.std.specs.Prelude.{is_none, is_some, option_map, unwrap_or, Result, Ok, Err, if◌then◌else◌}
+use Rattle.std.specs.List.{concat, list_all, list_any, zip}
+use Rattle.std.specs.Option.{option_map_or}
 use Rattle.std.specs.Str.{bytes_eq}
 use Rattle.ct_names.specs.Group.{is_member}
 use Rattle.ct_names.specs.MemberSet.{bits_of}
-use Rattle.ct_names.specs.RefusalText.{refusal_text}
+use Rattle.ct_names.specs.Message.{Message}
+use Rattle.ct_names.specs.Value.{Value}
 use Rattle.ct_names.specs.declared.limit.TheConstants.{MAX_MEMBERS}
 use Rattle.ct_names.specs.declared.refusal.Refusal.{Refusal}
 use Rattle.ct_model.specs.Cause.{cause}
+use Rattle.ct_model.specs.contracts.phase.PhasePartialEq.TheImpl.{ghosts as phases}
 use Rattle.ct_model.specs.declared.phase.Phase.{Phase}
 use Rattle.ct_model.specs.declared.step.Step.{Step}
-use Rattle.ct_model.specs.Received.{received_by}
+use Rattle.ct_model.specs.declared.wire.Wire.{Wire}
+use Rattle.ct_model.specs.Received.{decided, received_by}
 use Rattle.ct_model.specs.Rehearsal.{Rehearsal, state_of}
 use Rattle.ct_model.specs.State.{delivered, is_crashed}
 use Rattle.ct_table.specs.Table.{table}
-use Rattle.ct_world.specs.Standing.{acked_by, all_heard_by}
+use Rattle.ct_world.specs.Decided.{last_decided}
+use Rattle.ct_world.specs.Standing.{acked_by, all_heard_by, estimate_by}
 use Rattle.ct_world.specs.World.{member_of, if_member}
 use Rattle.ct_text.specs.Lists.{decisions_text, list_text, messages_text, table_text, first_in}
 use Rattle.ct_text.specs.Standing.{estimate_of}
 use Rattle.ct_text.specs.Shapes.{phase_text}
+use Rattle.ct_grammar.specs.contracts.reason.ReasonPartialEq.TheImpl.{ghosts as reasons}
+use Rattle.ct_grammar.specs.declared.claim.Name.{Name}
+use Rattle.ct_grammar.specs.declared.decision.Decision.{Decision}
+use Rattle.ct_grammar.specs.declared.estimate.Estimate.{Estimate}
 use Rattle.ct_grammar.specs.declared.fact.Fact.{Fact}
 use Rattle.ct_grammar.specs.declared.fact.Fact.TheVariants.{Up, Crashed, Idle, Instance, Round, Phase as InPhase}
 use Rattle.ct_grammar.specs.declared.fact.Fact.TheVariants.{Received, Decided, Delivered, Table, Refuses}
-use Rattle.ct_grammar.specs.declared.fact.Fact.TheVariants.{May, Waiting, Waits, Heard, Acked, Estimate}
+use Rattle.ct_grammar.specs.declared.fact.Fact.TheVariants.{May, Waiting, Waits, Heard, Acked, Estimate as Estimated}
+use Rattle.ct_grammar.specs.declared.reason.Reason.{Reason}
+use Rattle.ct_grammar.specs.declared.reason.Reason.TheVariants.{NotThere, Across, Rules}
 use Rattle.ct_grammar.specs.Reasons.{reason_text}
+use Rattle.ct_print.specs.Facts.{fact_text}
 use Rattle.ct_play.specs.Acting.{step_of}
 use Rattle.ct_play.specs.Cuts.{barred}
 use Rattle.ct_play.specs.Picking.{is_waiting, waiting_at}
@@ -52,21 +64,25 @@ place_text None = codes "idle"
 place_text (Some place) = phase_text place.1
 
 -- why the rules refuse a step, or the cut forbids it
-abbrev pub barred_text : Option LineFault → List ℕ
-barred_text None = codes "allowed"
-barred_text (Some fault) = codes "Across"
+abbrev pub barred_reason : Option LineFault → Option Reason
+barred_reason None = None
+barred_reason (Some fault) = Some Across
 
-abbrev pub cause_text : Option LineFault → Option Refusal → List ℕ
-cause_text fault None = barred_text fault
-cause_text fault (Some refusal) = refusal_text refusal
+abbrev pub reason_by : Option LineFault → Option Refusal → Option Reason
+reason_by fault None = barred_reason fault
+reason_by fault (Some refusal) = Some (Rules refusal)
 
-unfoldable pub step_cause : Played → Step → List ℕ
-step_cause s step = cause_text (barred s step) (cause s.rehearsal step)
+unfoldable pub step_reason : Played → Step → Option Reason
+step_reason s step = reason_by (barred s step) (cause s.rehearsal step)
 
--- why an act is refused, of one of several steps the first
-abbrev pub act_cause : Played → Result Step LineFault → List ℕ
-act_cause s (Err fault) = codes "NotThere"
-act_cause s (Ok step) = step_cause s step
+-- why an act is refused, of one of several steps the first; None where it is allowed
+abbrev pub act_reason : Played → Result Step LineFault → Option Reason
+act_reason s (Err fault) = Some NotThere
+act_reason s (Ok step) = step_reason s step
+
+abbrev pub allowed_or : Option Reason → List ℕ
+allowed_or None = codes "allowed"
+allowed_or (Some reason) = reason_text reason
 
 abbrev pub waits_text : Bool → List ℕ
 waits_text waits = if waits then codes "waits" else codes "none"
@@ -94,69 +110,91 @@ there s p Idle = open_text (is_some (member_of s.rehearsal p).current)
 there s p (Instance k) = decimal (member_of s.rehearsal p).last
 there s p (Round r) = round_text (place_of s.rehearsal p)
 there s p (InPhase f) = place_text (place_of s.rehearsal p)
-there s p (Received text) = messages_text 32 (received_by (state_of s.rehearsal) p)
-there s p (Decided text) = decisions_text (member_of s.rehearsal p).got
-there s p (Delivered text) = messages_text 32 (delivered (member_of s.rehearsal p))
-there s p (Table text) = table_text (table (delivered (member_of s.rehearsal p)))
-there s p (Refuses act reason) = act_cause s (step_of s.rehearsal p act)
-there s p (May act) = act_cause s (step_of s.rehearsal p act)
+there s p (Received names) = messages_text 32 (received_by (state_of s.rehearsal) p)
+there s p (Decided decisions) = decisions_text (member_of s.rehearsal p).got
+there s p (Delivered names) = messages_text 32 (delivered (member_of s.rehearsal p))
+there s p (Table values) = table_text (table (delivered (member_of s.rehearsal p)))
+there s p (Refuses act reason) = allowed_or (act_reason s (step_of s.rehearsal p act))
+there s p (May act) = allowed_or (act_reason s (step_of s.rehearsal p act))
 there s p (Waiting k) = decimal (length (waiting_at s.rehearsal p))
 there s p (Waits pick) = waits_text (is_waiting s.rehearsal p pick)
 there s p (Heard set) = set_text (heard_at s.rehearsal p)
 there s p (Acked set) = set_text (acked_at s.rehearsal p)
-there s p (Estimate text) = estimate_text s.rehearsal p
+there s p (Estimated estimate) = estimate_text s.rehearsal p
 
 -- ---- what is expected
 
--- the value that has to be there
-abbrev pub value : Fact → List ℕ
-value Up = codes "up"
-value Crashed = codes "crashed"
-value Idle = codes "idle"
-value (Instance k) = decimal k
-value (Round r) = decimal r
-value (InPhase f) = phase_text f
-value (Received text) = text
-value (Decided text) = text
-value (Delivered text) = text
-value (Table text) = text
-value (Refuses act reason) = reason_text reason
-value (May act) = codes "allowed"
-value (Waiting k) = decimal k
-value (Waits pick) = codes "waits"
-value (Heard set) = set_text set
-value (Acked set) = set_text set
-value (Estimate text) = text
-
--- the word before the value, and a space; nothing where the value says it
-abbrev pub word : Fact → List ℕ
-word Up = []
-word Crashed = []
-word Idle = []
-word (Instance k) = codes "instance "
-word (Round r) = codes "round "
-word (InPhase f) = codes "phase "
-word (Received text) = codes "received "
-word (Decided text) = codes "decided "
-word (Delivered text) = codes "delivered "
-word (Table text) = codes "table "
-word (Refuses act reason) = codes "refuses "
-word (May act) = []
-word (Waiting k) = codes "waiting "
-word (Waits pick) = []
-word (Heard set) = codes "heard "
-word (Acked set) = codes "acked "
-word (Estimate text) = codes "estimate "
-
 -- what is expected, in words
-unfoldable pub wanted : Fact → List ℕ
-wanted fact = concat (word fact ∷ value fact ∷ [])
+abbrev pub wanted : Fact → List ℕ
+wanted (Refuses act reason) = concat (codes "refuses " ∷ reason_text reason ∷ [])
+wanted (May act) = codes "allowed"
+wanted (Waits pick) = codes "waits"
+wanted fact = fact_text fact
 
--- what is there is what is expected: sets have the same members, and what else is there reads the same
+-- the message has this name
+abbrev pub is_named : Name → Message → Bool
+is_named name m = (m.origin == name.origin) && (m.number == name.number)
+
+-- the messages have these names, in this order
+abbrev pub are_named : List Name → List Message → Bool
+are_named names list = (length names == length list) && list_all (λ pair. is_named pair.0 pair.1) (zip names list)
+
+-- the message has one of these names
+abbrev pub is_among : List Name → Message → Bool
+is_among names m = list_any (λ name. is_named name m) names
+
+-- the messages, of which each is there once, have these names, in any order
+abbrev pub are_those : List Name → List Message → Bool
+are_those names list = (length names == length list) && list_all (is_among names) list
+
+-- for how many of the instances up to one a decision was got
+abbrev pub decisions_to : List (Wire Value) → ℕ → ℕ
+decisions_to got zero = 0
+decisions_to got (suc k) = decisions_to got k + (if is_some (decided got (suc k)) then 1 else 0)
+
+-- for how many instances, begun or not
+unfoldable pub decision_count : List (Wire Value) → ℕ
+decision_count got = decisions_to got (unwrap_or (last_decided got) 0)
+
+-- that was decided for the instance
+abbrev pub is_decided : List (Wire Value) → Decision → Bool
+is_decided got d = option_map_or (are_those d.names) (decided got d.instance) false
+
+-- these decisions were got, which are of one instance each, and no other
+abbrev pub are_decided : List (Wire Value) → List Decision → Bool
+are_decided got decisions = list_all (is_decided got) decisions && (decision_count got == length decisions)
+
+-- the estimate, with its ts
+abbrev pub is_estimate : Option (Value × ℕ) → Option Estimate → Bool
+is_estimate None None = true
+is_estimate None (Some wanted) = false
+is_estimate (Some e) None = false
+is_estimate (Some e) (Some wanted) = are_those wanted.names e.0 && (e.1 == wanted.ts)
+
+-- the reason is this one
+abbrev pub is_reason : Option Reason → Reason → Bool
+is_reason None reason = false
+is_reason (Some other) reason = reasons.eq other reason
+
+-- what is expected of p is so
 abbrev pub is_as_said : Played → ℕ → Fact → Bool
+is_as_said s p Up = not (is_crashed (state_of s.rehearsal) p)
+is_as_said s p Crashed = is_crashed (state_of s.rehearsal) p
+is_as_said s p Idle = is_none (member_of s.rehearsal p).current
+is_as_said s p (Instance k) = (member_of s.rehearsal p).last == k
+is_as_said s p (Round r) = option_map_or (λ place. place.0 == r) (place_of s.rehearsal p) false
+is_as_said s p (InPhase f) = option_map_or (λ place. phases.eq place.1 f) (place_of s.rehearsal p) false
+is_as_said s p (Received names) = are_named names (received_by (state_of s.rehearsal) p)
+is_as_said s p (Decided decisions) = are_decided (member_of s.rehearsal p).got decisions
+is_as_said s p (Delivered names) = are_named names (delivered (member_of s.rehearsal p))
+is_as_said s p (Table values) = bytes_eq (table (delivered (member_of s.rehearsal p))) values
+is_as_said s p (Refuses act reason) = is_reason (act_reason s (step_of s.rehearsal p act)) reason
+is_as_said s p (May act) = is_none (act_reason s (step_of s.rehearsal p act))
+is_as_said s p (Waiting k) = length (waiting_at s.rehearsal p) == k
+is_as_said s p (Waits pick) = is_waiting s.rehearsal p pick
 is_as_said s p (Heard set) = bits_of (heard_at s.rehearsal p) == bits_of set
 is_as_said s p (Acked set) = bits_of (acked_at s.rehearsal p) == bits_of set
-is_as_said s p fact = bytes_eq (there s p fact) (value fact)
+is_as_said s p (Estimated estimate) = is_estimate (if_member s.rehearsal p (estimate_by (member_of s.rehearsal p))) estimate
 
 -- a fact holds of a member of the group of which it is so
 unfoldable pub holds : Played → ℕ → Fact → Bool

@@ -14,7 +14,7 @@ use Rattle.ct_grammar.specs.declared.term.When.{When}
 use Rattle.ct_grammar.specs.declared.term.When.TheVariants.{Now, Ever, Never}
 use Rattle.ct_grammar.specs.declared.term.Whom.{Whom}
 use Rattle.ct_grammar.specs.declared.term.Whom.TheVariants as whom
-use Rattle.ct_play.specs.Claims.{is_true_of, takes_memory}
+use Rattle.ct_play.specs.Claims.{is_true_of}
 use Rattle.ct_play.specs.Played.{Played, first_part}
 
 -- ---- of whom
@@ -123,7 +123,3 @@ looked_at s zero ts looks = looks
 looked_at s (suc i) [] looks = looks
 looked_at s (suc i) (t ∷ ts) [] = []
 looked_at s (suc i) (t ∷ ts) (before ∷ looks) = next_look s t before ∷ looked_at s i ts looks
-
--- one of them takes memory to be looked at
-abbrev pub take_memory : List Term → Bool
-take_memory ts = list_any (λ t. takes_memory t.claim) ts

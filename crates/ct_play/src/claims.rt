@@ -1,17 +1,17 @@
 //! What goals say of members.
 
-ghost use Rattle.std.specs.Prelude.{◌≡◌, IfOk, OnErr, IsTrue, is_some, option_map, position, true};
+ghost use Rattle.std.specs.Prelude.{◌≡◌, IsTrue, option_map, position};
 ghost use Rattle.ct_names.specs.Group.{is_member};
 ghost use Rattle.ct_model.specs.Cause.{cause};
 ghost use Rattle.ct_world.specs.World.{member_of};
-ghost use Rattle.ct_play.specs.Claims.{amount_of, carries_other, chooses_unseen, concludes_again, decides_again, decision_count, follows};
-ghost use Rattle.ct_play.specs.Claims.{gets, has_got, is_again, is_earlier, is_enough, is_led, is_named, is_refused_so, is_other_decision};
+ghost use Rattle.ct_play.specs.Claims.{amount_of, carries_other, chooses_unseen, concludes_again, decides_again, follows};
+ghost use Rattle.ct_play.specs.Claims.{gets, has_got, is_again, is_earlier, is_enough, is_led, is_refused_so, is_other_decision};
 ghost use Rattle.ct_play.specs.Claims.{is_true_of, is_unseen, last_step, refuses_choice, refuses_heard, round_at, says, stands_before};
 ghost use Rattle.ct_play.specs.Claims.{suspects_up};
-ghost use Rattle.ct_play.specs.Claims.{takes_memory, was_other};
-ghost use Rattle.ct_play.specs.Facts.{place_of};
+ghost use Rattle.ct_play.specs.Claims.{was_other};
+ghost use Rattle.ct_play.specs.Facts.{is_named, place_of};
 
-use crate::facts::holds;
+use crate::facts::{decision_count, holds, is_named};
 use crate::picking::{is_carried, is_so, waiting_at};
 use crate::stage::Stage;
 use ct_grammar::{Amount, Carried, Claim, Extent, Name, Reason};
@@ -19,48 +19,40 @@ use ct_model::{Phase, Step};
 use ct_names::{Instance, Member, Message, Round, Serial};
 use ct_progress::{is_settled, is_stuck};
 use ct_world::{Letter, Wire, World};
-use std::alloc::{AllocError, Global};
 
 // Whether the claim is true of the member; of no member of the group it is.
 #[tactic(auto, unfolding(crate::specs::Claims::is_true_of))]
-pub(crate) fn is_true_of(
-    alloc: Global,
-    stage: &Stage,
-    member: Member,
-    claim: &Claim,
-) -> Result<bool, AllocError>
-    ensures value { IfOk result (λ met. met ≡ is_true_of stage.now member claim.now) }
-    ensures memory { OnErr result (takes_memory claim.now ≡ true) }
+pub(crate) fn is_true_of(stage: &Stage, member: Member, claim: &Claim) -> bool
+    ensures { result ≡ is_true_of stage.now member claim.now }
 {
     if stage.world().group().has(member) {
-        says(alloc, stage, member, claim)
+        says(stage, member, claim)
     } else {
-        Ok(false)
+        false
     }
 }
 
 // What the claim says of a member of the group.
-fn says(alloc: Global, stage: &Stage, member: Member, claim: &Claim) -> Result<bool, AllocError>
+fn says(stage: &Stage, member: Member, claim: &Claim) -> bool
     requires { IsTrue (is_member stage.now.rehearsal.setting.members member) }
-    ensures value { IfOk result (λ met. met ≡ says stage.now member claim.now) }
-    ensures memory { OnErr result (takes_memory claim.now ≡ true) }
+    ensures { result ≡ says stage.now member claim.now }
 {
     let world = stage.world();
     match claim {
-        Claim::Fact(fact) => holds(alloc, stage, member, fact),
-        Claim::Amount(what, extent) => Ok(is_enough(*extent, amount_of(stage, member, *what))),
-        Claim::Got(instance) => Ok(world.decided(member, *instance).is_some()),
+        Claim::Fact(fact) => holds(stage, member, fact),
+        Claim::Amount(what, extent) => is_enough(*extent, amount_of(stage, member, *what)),
+        Claim::Got(instance) => world.decided(member, *instance).is_some(),
         Claim::Before(one, other) => {
             let list = world.delivered(member).unwrap_or(&[]);
-            Ok(stands_before(list, *one, *other))
+            stands_before(list, *one, *other)
         }
-        Claim::RefusesChoice(reason) => refuses_choice(alloc, world, member, *reason),
-        Claim::SuspectsUp => Ok(suspects_up(world, member, last_step(world))),
-        Claim::Follows(instance) => Ok(follows(world, member, *instance, last_step(world))),
-        Claim::ChoosesUnseen => Ok(chooses_unseen(world, member, last_step(world))),
-        Claim::ConcludesAgain => Ok(concludes_again(stage, member, last_step(world))),
-        Claim::Settled => Ok(is_settled(world, member)),
-        Claim::Stuck => Ok(is_stuck(world, member)),
+        Claim::RefusesChoice(reason) => refuses_choice(world, member, *reason),
+        Claim::SuspectsUp => suspects_up(world, member, last_step(world)),
+        Claim::Follows(instance) => follows(world, member, *instance, last_step(world)),
+        Claim::ChoosesUnseen => chooses_unseen(world, member, last_step(world)),
+        Claim::ConcludesAgain => concludes_again(stage, member, last_step(world)),
+        Claim::Settled => is_settled(world, member),
+        Claim::Stuck => is_stuck(world, member),
     }
 }
 
@@ -94,21 +86,6 @@ fn round_at(place: Option<(Round, Phase)>) -> Round
     }
 }
 
-// For how many instances the member got the decision.
-#[tactic(auto, unfolding(crate::specs::Claims::decision_count))]
-fn decision_count(world: &World, member: Member) -> u32
-    requires { IsTrue (is_member world.now.rehearsal.setting.members member) }
-    ensures { result ≡ decision_count (member_of world.now.rehearsal member).got }
-{
-    let mut count = 0;
-    for i in 0..world.last_decided(member).unwrap_or(0) {
-        if world.decided(member, i + 1).is_some() {
-            count += 1;
-        }
-    }
-    count
-}
-
 // Whether it is as much as is wanted.
 fn is_enough(extent: Extent, count: usize) -> bool
     ensures { result ≡ is_enough extent count }
@@ -135,12 +112,6 @@ fn place_of(list: &[Message], name: Name) -> Option<usize>
     list.iter().position(|message| is_named(name, message))
 }
 
-fn is_named(name: Name, message: &Message) -> bool
-    ensures { result ≡ is_named name message.now }
-{
-    message.origin() == name.origin && message.number() == name.number
-}
-
 fn is_earlier(one: Option<usize>, other: Option<usize>) -> bool
     ensures { result ≡ is_earlier one other }
 {
@@ -153,54 +124,33 @@ fn is_earlier(one: Option<usize>, other: Option<usize>) -> bool
 // ---- refusals
 
 // Whether the rules refuse the member the choice of an estimate that it heard for this reason.
-fn refuses_choice(
-    alloc: Global,
-    world: &World,
-    member: Member,
-    reason: Reason,
-) -> Result<bool, AllocError>
-    ensures { IfOk result (λ met. met ≡ refuses_choice world.now.rehearsal member reason) }
+fn refuses_choice(world: &World, member: Member, reason: Reason) -> bool
+    ensures { result ≡ refuses_choice world.now.rehearsal member reason }
 {
     for i in 0..world.group().n() {
-        if refuses_heard(alloc, world, member, reason, i + 1)? {
-            return Ok(true);
+        if refuses_heard(world, member, reason, i + 1) {
+            return true;
         }
     }
-    Ok(false)
+    false
 }
 
 // Whether the member heard this one for its round, and the rules refuse it the choice of its estimate for this reason.
-fn refuses_heard(
-    alloc: Global,
-    world: &World,
-    member: Member,
-    reason: Reason,
-    from: Member,
-) -> Result<bool, AllocError>
-    ensures { IfOk result (λ met. met ≡ refuses_heard world.now.rehearsal member reason from) }
+fn refuses_heard(world: &World, member: Member, reason: Reason, from: Member) -> bool
+    ensures { result ≡ refuses_heard world.now.rehearsal member reason from }
 {
-    if world.heard_from(member, from).is_some() {
-        is_refused_so(alloc, world, Step::Choose(member, from), reason)
-    } else {
-        Ok(false)
-    }
+    world.heard_from(member, from).is_some()
+        && is_refused_so(world, Step::Choose(member, from), reason)
 }
 
 // Whether the rules refuse the step for this reason.
-fn is_refused_so(
-    alloc: Global,
-    world: &World,
-    step: Step,
-    reason: Reason,
-) -> Result<bool, AllocError>
-    ensures { IfOk result (λ met. met ≡ is_refused_so reason (cause world.now.rehearsal step)) }
+fn is_refused_so(world: &World, step: Step, reason: Reason) -> bool
+    ensures { result ≡ is_refused_so reason (cause world.now.rehearsal step) }
 {
-    let Err(refusal) = world.enabled(&step) else {
-        return Ok(false);
-    };
-    let there = format!(in alloc; "{refusal}")?;
-    let wanted = format!(in alloc; "{reason}")?;
-    Ok(there.as_str() == wanted.as_str())
+    match world.enabled(&step) {
+        Ok(()) => false,
+        Err(refusal) => Reason::Rules(refusal) == reason,
+    }
 }
 
 // ---- last steps
@@ -244,7 +194,7 @@ fn follows(world: &World, member: Member, instance: Instance, step: Option<Step>
 }
 
 // The last instance that the member began, 0 before the first.
-fn last_of(world: &World, member: Member) -> Instance
+pub(crate) fn last_of(world: &World, member: Member) -> Instance
     requires { IsTrue (is_member world.now.rehearsal.setting.members member) }
     ensures { result ≡ (member_of world.now.rehearsal member).last }
 {
@@ -365,11 +315,4 @@ fn is_other_decision(instance: Instance, round: Round, wire: &Wire) -> bool
         } => of == instance && at != round,
         _ => false,
     }
-}
-
-// Whether looking at the claim takes memory: it compares texts.
-pub(crate) fn takes_memory(claim: &Claim) -> bool
-    ensures { result ≡ takes_memory claim.now }
-{
-    matches!(claim, Claim::Fact(_) | Claim::RefusesChoice(_))
 }

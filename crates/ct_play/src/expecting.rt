@@ -19,17 +19,17 @@ pub(crate) fn expect(alloc: Global, stage: &Stage, goal: &Goal) -> Result<(), Li
     ensures err { IfErr result (IsFaultOf (expected stage.now goal.now)) }
 {
     all_known(alloc, stage.world().group(), goal)?;
-    expect_of(alloc, stage, goal)
+    expect_of(stage, goal)
 }
 
 // The goal has to hold.
-pub(crate) fn expect_of(alloc: Global, stage: &Stage, goal: &Goal) -> Result<(), LineFault>
+pub(crate) fn expect_of(stage: &Stage, goal: &Goal) -> Result<(), LineFault>
     ensures ok { OnOk result (expected_of stage.now goal.now ≡ Ok stage.now) }
     ensures err { IfErr result (IsFaultOf (expected_of stage.now goal.now)) }
 {
-    match unmet(alloc, stage, goal)? {
+    match unmet(stage, goal)? {
         None => Ok(()),
-        Some(term) => Err(LineFault::NotMet(failing(alloc, stage, term)?)),
+        Some(term) => Err(LineFault::NotMet(failing(stage, term))),
     }
 }
 
@@ -59,15 +59,11 @@ fn who_of(whom: &Whom) -> Who
 
 /// The first term of the goal that does not hold on the stage.
 #[tactic(auto, unfolding(crate::specs::Expecting::unmet))]
-pub fn unmet<'g>(
-    alloc: Global,
-    stage: &Stage,
-    goal: &'g Goal,
-) -> Result<Option<&'g Term>, AllocError>
+pub fn unmet<'g>(stage: &Stage, goal: &'g Goal) -> Result<Option<&'g Term>, AllocError>
     ensures { IfOk result (λ first. option_map (λ term. term.now) first ≡ unmet stage.now goal.now) }
 {
     for term in &goal.terms {
-        if !is_met(alloc, stage, term)? {
+        if !is_met(stage, term)? {
             return Ok(Some(term));
         }
     }
@@ -75,26 +71,21 @@ pub fn unmet<'g>(
 }
 
 // The member by which the term does not hold, if it is one.
-fn failing(alloc: Global, stage: &Stage, term: &Term) -> Result<Option<Member>, AllocError>
-    ensures { IfOk result (λ member. member ≡ failing stage.now term.now) }
+fn failing(stage: &Stage, term: &Term) -> Option<Member>
+    ensures { result ≡ failing stage.now term.now }
 {
     match term.when {
-        When::Now => failing_now(alloc, stage, &term.whom, &term.claim),
-        When::Ever => Ok(None),
-        When::Never => Ok(None),
+        When::Now => failing_now(stage, &term.whom, &term.claim),
+        When::Ever => None,
+        When::Never => None,
     }
 }
 
-fn failing_now(
-    alloc: Global,
-    stage: &Stage,
-    whom: &Whom,
-    claim: &Claim,
-) -> Result<Option<Member>, AllocError>
-    ensures { IfOk result (λ member. member ≡ failing_now stage.now whom.now claim.now) }
+fn failing_now(stage: &Stage, whom: &Whom, claim: &Claim) -> Option<Member>
+    ensures { result ≡ failing_now stage.now whom.now claim.now }
 {
     match whom {
-        Whom::Any => Ok(None),
-        _ => unshown(alloc, stage, whom, claim),
+        Whom::Any => None,
+        _ => unshown(stage, whom, claim),
     }
 }

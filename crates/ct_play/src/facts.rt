@@ -1,25 +1,33 @@
 //! What facts say of members, and what is there.
 
-ghost use Rattle.std.specs.Prelude.{◌≡◌, OnOk, IfOk, IsTrue, decimal, is_some};
+ghost use Rattle.std.specs.Prelude.{◌≡◌, ◌==◌, OnOk, IsTrue, decimal, false, is_some, option_map};
+ghost use Rattle.std.specs.List.{list_all, zip};
+ghost use Rattle.std.specs.Option.{option_map_or};
+ghost use Rattle.std.specs.Str.{bytes_eq};
 ghost use Rattle.ct_text.specs.Adds.{Adds};
 ghost use Rattle.ct_names.specs.Group.{is_member};
+ghost use Rattle.ct_model.specs.contracts.phase.PhasePartialEq.TheImpl.{ghosts as phases};
 ghost use Rattle.ct_model.specs.Received.{received_by};
 ghost use Rattle.ct_model.specs.Rehearsal.{state_of};
 ghost use Rattle.ct_model.specs.State.{delivered};
 ghost use Rattle.ct_table.specs.Table.{table};
 ghost use Rattle.ct_world.specs.World.{member_of};
 ghost use Rattle.ct_text.specs.Lists.{decisions_text, messages_text, table_text};
-ghost use Rattle.ct_play.specs.Facts.{acked_at, act_cause, barred_text, cause_text, estimate_text, heard_at, holds, is_as_said, open_text};
-ghost use Rattle.ct_play.specs.Facts.{place_text, round_text, step_cause, there, up_text, value, waits_text, wanted, word};
+ghost use Rattle.ct_play.specs.Facts.{acked_at, act_reason, allowed_or, are_decided, are_named, are_those, barred_reason, decision_count};
+ghost use Rattle.ct_play.specs.Facts.{estimate_text, heard_at, holds, is_among, is_as_said, is_decided, is_estimate, is_named, is_reason};
+ghost use Rattle.ct_play.specs.Facts.{open_text, place_text, round_text, step_reason, there, up_text, waits_text, wanted};
 
 use crate::acting::step_of;
+use crate::claims::last_of;
 use crate::cuts::barred;
 use crate::line_fault::LineFault;
 use crate::picking::{is_waiting, waiting_at};
 use crate::stage::Stage;
-use ct_grammar::Fact;
+use ct_grammar::{Decision, Estimate, Fact, Name, Names, Reason};
 use ct_model::{Phase, Step};
-use ct_names::{Member, MemberSet, Refusal, Round};
+use ct_names::{Member, MemberSet, Message, Round};
+use ct_print::push_fact;
+use ct_table::Table;
 use ct_text::{
     phase_name, push_decisions, push_estimate_of, push_members_of, push_messages, push_table,
 };
@@ -30,95 +38,192 @@ use std::alloc::{AllocError, Global};
 
 // Whether the fact holds of the member, which has to be one of the group's.
 #[tactic(auto, unfolding(crate::specs::Facts::holds))]
-pub(crate) fn holds(
-    alloc: Global,
-    stage: &Stage,
-    member: Member,
-    fact: &Fact,
-) -> Result<bool, AllocError>
-    ensures { IfOk result (λ met. met ≡ holds stage.now member fact.now) }
+pub(crate) fn holds(stage: &Stage, member: Member, fact: &Fact) -> bool
+    ensures { result ≡ holds stage.now member fact.now }
 {
     if stage.world().group().has(member) {
-        is_as_said(alloc, stage, member, fact)
+        is_as_said(stage, member, fact)
     } else {
-        Ok(false)
+        false
     }
 }
 
-// Whether what is there is what is expected.
-fn is_as_said(alloc: Global, stage: &Stage, member: Member, fact: &Fact) -> Result<bool, AllocError>
+// Whether what is expected of the member is so.
+fn is_as_said(stage: &Stage, member: Member, fact: &Fact) -> bool
     requires { IsTrue (is_member stage.now.rehearsal.setting.members member) }
-    ensures { IfOk result (λ met. met ≡ is_as_said stage.now member fact.now) }
+    ensures { result ≡ is_as_said stage.now member fact.now }
 {
+    let world = stage.world();
     match fact {
-        Fact::Heard(set) => Ok(heard_at(stage.world(), member) == *set),
-        Fact::Acked(set) => Ok(acked_at(stage.world(), member) == *set),
-        _ => {
-            let mut there = String::new(alloc);
-            push_there(&mut there, stage, member, fact)?;
-            let mut wanted = String::new(alloc);
-            push_value(&mut wanted, fact)?;
-            Ok(there.as_str() == wanted.as_str())
+        Fact::Up => !world.crashed(member),
+        Fact::Crashed => world.crashed(member),
+        Fact::Idle => world.round(member).is_none(),
+        Fact::Instance(instance) => last_of(world, member) == *instance,
+        Fact::Round(round) => is_in_round(world.round(member), *round),
+        Fact::Phase(phase) => is_in_phase(world.round(member), *phase),
+        Fact::Received(names) => are_named(names, world.received(member).unwrap_or(&[])),
+        Fact::Decided(decisions) => are_decided(world, member, decisions.as_slice()),
+        Fact::Delivered(names) => are_named(names, world.delivered(member).unwrap_or(&[])),
+        Fact::Table(table) => has_table(world, member, table),
+        Fact::Refuses(act, reason) => {
+            is_reason(act_reason(stage, step_of(stage, member, *act)), *reason)
+        }
+        Fact::May(act) => act_reason(stage, step_of(stage, member, *act)).is_none(),
+        Fact::Waiting(count) => waiting_at(stage, member).len() == *count as usize,
+        Fact::Waits(pick) => is_waiting(stage, member, *pick),
+        Fact::Heard(set) => heard_at(world, member) == *set,
+        Fact::Acked(set) => acked_at(world, member) == *set,
+        Fact::Estimate(estimate) => is_estimate(world.estimate(member), estimate),
+    }
+}
+
+fn is_in_round(place: Option<(Round, Phase)>, wanted: Round) -> bool
+    ensures { result ≡ option_map_or (λ place. place.0 == wanted) place false }
+{
+    match place {
+        None => false,
+        Some((round, _)) => round == wanted,
+    }
+}
+
+fn is_in_phase(place: Option<(Round, Phase)>, wanted: Phase) -> bool
+    ensures { result ≡ option_map_or (λ place. phases.eq place.1 wanted) place false }
+{
+    match place {
+        None => false,
+        Some((_, phase)) => phase == wanted,
+    }
+}
+
+// Whether the message has this name.
+pub(crate) fn is_named(name: Name, message: &Message) -> bool
+    ensures { result ≡ is_named name message.now }
+{
+    message.origin() == name.origin && message.number() == name.number
+}
+
+// Whether the messages have these names, in this order.
+fn are_named(names: &Names, list: &[Message]) -> bool
+    ensures { result ≡ are_named names.now list.now }
+{
+    let names = names.as_slice();
+    names.len() == list.len() && each_named(names, list)
+}
+
+fn each_named(names: &[Name], list: &[Message]) -> bool
+    ensures { result ≡ list_all (λ pair. is_named pair.0 pair.1) (zip names.now list.now) }
+{
+    names
+        .iter()
+        .zip(list)
+        .all(|(name, message)| is_named(*name, message))
+}
+
+// Whether the message has one of these names.
+fn is_among(names: &[Name], message: &Message) -> bool
+    ensures { result ≡ is_among names.now message.now }
+{
+    names.iter().any(|name| is_named(*name, message))
+}
+
+// Whether the messages, of which each is there once, have these names, in any order.
+fn are_those(names: &Names, list: &[Message]) -> bool
+    ensures { result ≡ are_those names.now list.now }
+{
+    let names = names.as_slice();
+    names.len() == list.len() && each_among(names, list)
+}
+
+fn each_among(names: &[Name], list: &[Message]) -> bool
+    ensures { result ≡ list_all (is_among names.now) list.now }
+{
+    list.iter().all(|message| is_among(names, message))
+}
+
+// For how many instances the member got the decision.
+#[tactic(auto, unfolding(crate::specs::Facts::decision_count))]
+pub(crate) fn decision_count(world: &World, member: Member) -> u32
+    requires { IsTrue (is_member world.now.rehearsal.setting.members member) }
+    ensures { result ≡ decision_count (member_of world.now.rehearsal member).got }
+{
+    let mut count = 0;
+    for i in 0..world.last_decided(member).unwrap_or(0) {
+        if world.decided(member, i + 1).is_some() {
+            count += 1;
         }
     }
+    count
 }
 
-/// Appends what is expected: the word of the fact, and the value that has to be there.
-#[tactic(auto, unfolding(crate::specs::Facts::wanted))]
+// Whether that was decided for the instance.
+fn is_decided(world: &World, member: Member, decision: &Decision) -> bool
+    requires { IsTrue (is_member world.now.rehearsal.setting.members member) }
+    ensures { result ≡ is_decided (member_of world.now.rehearsal member).got decision.now }
+{
+    match world.decided(member, decision.instance) {
+        None => false,
+        Some(list) => are_those(&decision.names, list),
+    }
+}
+
+// Whether the member got these decisions, which are of one instance each, and no other.
+fn are_decided(world: &World, member: Member, decisions: &[Decision]) -> bool
+    requires { IsTrue (is_member world.now.rehearsal.setting.members member) }
+    ensures { result ≡ are_decided (member_of world.now.rehearsal member).got decisions.now }
+{
+    each_decided(world, member, decisions)
+        && decision_count(world, member) as usize == decisions.len()
+}
+
+fn each_decided(world: &World, member: Member, decisions: &[Decision]) -> bool
+    requires { IsTrue (is_member world.now.rehearsal.setting.members member) }
+    ensures { result ≡ list_all (is_decided (member_of world.now.rehearsal member).got) decisions.now }
+{
+    decisions
+        .iter()
+        .all(|decision| is_decided(world, member, decision))
+}
+
+// Whether the member's table is this one.
+fn has_table(world: &World, member: Member, wanted: &Table) -> bool
+    requires { IsTrue (is_member world.now.rehearsal.setting.members member) }
+    ensures { result ≡ bytes_eq (table (delivered (member_of world.now.rehearsal member))) wanted.now }
+{
+    match world.table(member) {
+        None => unreachable!(),
+        Some(table) => table == wanted,
+    }
+}
+
+// Whether it is this estimate, with its ts.
+fn is_estimate(there: Option<(&[Message], Round)>, wanted: &Option<Estimate>) -> bool
+    ensures { result ≡ is_estimate (option_map (λ e. (e.0.now, e.1)) there.entry) wanted.now }
+{
+    match (there, wanted) {
+        (None, None) => true,
+        (Some((list, ts)), Some(wanted)) => are_those(&wanted.names, list) && ts == wanted.ts,
+        _ => false,
+    }
+}
+
+fn is_reason(found: Option<Reason>, reason: Reason) -> bool
+    ensures { result ≡ is_reason found reason }
+{
+    match found {
+        None => false,
+        Some(other) => other == reason,
+    }
+}
+
+/// Appends what is expected.
 pub fn push_wanted(text: &mut String, fact: &Fact) -> Result<(), AllocError>
     ensures { OnOk result (Adds text.old text.new (wanted fact.now)) }
 {
-    text.push_str(word(fact))?;
-    push_value(text, fact)
-}
-
-// The word before the value, and a space; nothing where the value says it.
-fn word(fact: &Fact) -> &'static str
-    ensures { result.now ≡ word fact.now }
-{
     match fact {
-        Fact::Up => "",
-        Fact::Crashed => "",
-        Fact::Idle => "",
-        Fact::Instance(_) => "instance ",
-        Fact::Round(_) => "round ",
-        Fact::Phase(_) => "phase ",
-        Fact::Received(_) => "received ",
-        Fact::Decided(_) => "decided ",
-        Fact::Delivered(_) => "delivered ",
-        Fact::Table(_) => "table ",
-        Fact::Refuses(..) => "refuses ",
-        Fact::May(_) => "",
-        Fact::Waiting(_) => "waiting ",
-        Fact::Waits(_) => "",
-        Fact::Heard(_) => "heard ",
-        Fact::Acked(_) => "acked ",
-        Fact::Estimate(_) => "estimate ",
-    }
-}
-
-// The value that has to be there.
-fn push_value(text: &mut String, fact: &Fact) -> Result<(), AllocError>
-    ensures { OnOk result (Adds text.old text.new (value fact.now)) }
-{
-    match fact {
-        Fact::Up => text.push_str("up"),
-        Fact::Crashed => text.push_str("crashed"),
-        Fact::Idle => text.push_str("idle"),
-        Fact::Instance(instance) => write!(text, "{instance}"),
-        Fact::Round(round) => write!(text, "{round}"),
-        Fact::Phase(phase) => text.push_str(phase_name(*phase)),
-        Fact::Received(words) => text.push_str(words.as_str()),
-        Fact::Decided(words) => text.push_str(words.as_str()),
-        Fact::Delivered(words) => text.push_str(words.as_str()),
-        Fact::Table(words) => text.push_str(words.as_str()),
-        Fact::Refuses(_, reason) => write!(text, "{reason}"),
+        Fact::Refuses(_, reason) => write!(text, "refuses {reason}"),
         Fact::May(_) => text.push_str("allowed"),
-        Fact::Waiting(count) => write!(text, "{count}"),
         Fact::Waits(_) => text.push_str("waits"),
-        Fact::Heard(set) => push_members_of(text, ',', *set),
-        Fact::Acked(set) => push_members_of(text, ',', *set),
-        Fact::Estimate(words) => text.push_str(words.as_str()),
+        _ => push_fact(text, fact),
     }
 }
 
@@ -146,7 +251,7 @@ pub fn push_there(
         Fact::Delivered(_) => push_messages(text, ' ', world.delivered(member).unwrap_or(&[])),
         Fact::Table(_) => push_table_of(text, world, member),
         Fact::Refuses(act, _) | Fact::May(act) => {
-            push_cause(text, stage, step_of(stage, member, *act))
+            push_reason(text, act_reason(stage, step_of(stage, member, *act)))
         }
         Fact::Waiting(_) => push_count(text, waiting_at(stage, member).len()),
         Fact::Waits(pick) => text.push_str(waits_text(is_waiting(stage, member, *pick))),
@@ -174,7 +279,7 @@ fn push_instance(text: &mut String, world: &World, member: Member) -> Result<(),
     requires { IsTrue (is_member world.now.rehearsal.setting.members member) }
     ensures { OnOk result (Adds text.old text.new (decimal (member_of world.now.rehearsal member).last)) }
 {
-    let (instance, _) = world.instance(member).unwrap_or((0, false));
+    let instance = last_of(world, member);
     write!(text, "{instance}")
 }
 
@@ -206,36 +311,41 @@ fn push_table_of(text: &mut String, world: &World, member: Member) -> Result<(),
     push_table(text, table)
 }
 
-// Why the act is refused whose step this is.
-fn push_cause(
-    text: &mut String,
-    stage: &Stage,
-    step: Result<Step, LineFault>,
-) -> Result<(), AllocError>
-    ensures { OnOk result (Adds text.old text.new (act_cause stage.now step)) }
+fn push_reason(text: &mut String, reason: Option<Reason>) -> Result<(), AllocError>
+    ensures { OnOk result (Adds text.old text.new (allowed_or reason)) }
+{
+    match reason {
+        None => text.push_str("allowed"),
+        Some(reason) => write!(text, "{reason}"),
+    }
+}
+
+// Why the act is refused whose step this is; None where it is allowed.
+fn act_reason(stage: &Stage, step: Result<Step, LineFault>) -> Option<Reason>
+    ensures { result ≡ act_reason stage.now step }
 {
     match step {
-        Err(_) => text.push_str("NotThere"),
-        Ok(step) => push_step_cause(text, stage, step),
+        Err(_) => Some(Reason::NotThere),
+        Ok(step) => step_reason(stage, step),
     }
 }
 
-#[tactic(auto, unfolding(crate::specs::Facts::step_cause))]
-fn push_step_cause(text: &mut String, stage: &Stage, step: Step) -> Result<(), AllocError>
-    ensures { OnOk result (Adds text.old text.new (step_cause stage.now step)) }
+#[tactic(auto, unfolding(crate::specs::Facts::step_reason))]
+fn step_reason(stage: &Stage, step: Step) -> Option<Reason>
+    ensures { result ≡ step_reason stage.now step }
 {
     match stage.world().enabled(&step) {
-        Ok(()) => text.push_str(barred_text(barred(stage, step))),
-        Err(refusal) => write!(text, "{refusal}"),
+        Ok(()) => barred_reason(barred(stage, step)),
+        Err(refusal) => Some(Reason::Rules(refusal)),
     }
 }
 
-fn barred_text(fault: Option<LineFault>) -> &'static str
-    ensures { result.now ≡ barred_text fault }
+fn barred_reason(fault: Option<LineFault>) -> Option<Reason>
+    ensures { result ≡ barred_reason fault }
 {
     match fault {
-        None => "allowed",
-        Some(_) => "Across",
+        None => None,
+        Some(_) => Some(Reason::Across),
     }
 }
 

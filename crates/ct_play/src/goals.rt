@@ -1,117 +1,72 @@
 //! What runs show.
 
-ghost use Rattle.std.specs.Prelude.{◌≡◌, ◌≤◌, ◌||◌, IfOk, OnOk, OnErr, find, length, map, option_map, true};
+ghost use Rattle.std.specs.Prelude.{◌≡◌, ◌≤◌, ◌||◌, IfOk, find, length, map, option_map};
 ghost use Rattle.std.specs.List.{list_all, zip};
 ghost use Rattle.ct_names.specs.Group.{members};
 ghost use Rattle.ct_names.specs.declared.limit.TheConstants.{MAX_MEMBERS};
-ghost use Rattle.ct_play.specs.Claims.{takes_memory};
 ghost use Rattle.ct_play.specs.Goals.{agrees, holds_at, holds_for, is_due, is_meant, is_met, is_such, looked_at};
-ghost use Rattle.ct_play.specs.Goals.{come_to, looks_of, next_look, shows, take_memory, terms, unshown, was_seen};
+ghost use Rattle.ct_play.specs.Goals.{come_to, looks_of, next_look, terms, unshown, was_seen};
 
-use crate::claims::{is_true_of, takes_memory};
+use crate::claims::is_true_of;
 use crate::stage::Stage;
 use ct_grammar::{Claim, Goal, Term, When, Whom};
 use ct_names::{MAX_MEMBERS, Member};
 use ct_world::World;
 use std::alloc::{AllocError, Global};
 
-/// Whether the stage shows the goal. Terms on any beginning of the run have its steps taken again.
-#[tactic(auto, unfolding(crate::specs::Goals::shows))]
-pub fn shows(alloc: Global, stage: &Stage, goal: &Goal) -> Result<bool, AllocError>
-    ensures { IfOk result (λ met. met ≡ shows goal.now stage.now) }
-{
-    for term in &goal.terms {
-        if !is_met(alloc, stage, term)? {
-            return Ok(false);
-        }
-    }
-    Ok(true)
-}
-
 // ---- of whom
 
 // Whether what the term says is so.
-fn holds_at(alloc: Global, stage: &Stage, term: &Term) -> Result<bool, AllocError>
-    ensures value { IfOk result (λ met. met ≡ holds_at stage.now term.now) }
-    ensures memory { OnErr result (takes_memory term.now.claim ≡ true) }
+fn holds_at(stage: &Stage, term: &Term) -> bool
+    ensures { result ≡ holds_at stage.now term.now }
 {
     match &term.whom {
-        Whom::Any => shown_by_any(alloc, stage, &term.claim),
-        whom => Ok(unshown(alloc, stage, whom, &term.claim)?.is_none()),
+        Whom::Any => shown_by_any(stage, &term.claim),
+        whom => unshown(stage, whom, &term.claim).is_none(),
     }
 }
 
 // Whether the claim is true of a member of the group.
-fn shown_by_any(alloc: Global, stage: &Stage, claim: &Claim) -> Result<bool, AllocError>
-    ensures value { IfOk result (λ met. met ≡ holds_for stage.now Whom.Any claim.now) }
-    ensures memory { OnErr result (takes_memory claim.now ≡ true) }
+fn shown_by_any(stage: &Stage, claim: &Claim) -> bool
+    ensures { result ≡ holds_for stage.now Whom.Any claim.now }
 {
     let count = stage.world().group().n();
-    Ok(first_such(alloc, stage, &Whom::Any, claim, true, count)?.is_some())
+    first_such(stage, &Whom::Any, claim, true, count).is_some()
 }
 
 // The first of the members that the term is about of which the claim is not true.
-pub(crate) fn unshown(
-    alloc: Global,
-    stage: &Stage,
-    whom: &Whom,
-    claim: &Claim,
-) -> Result<Option<Member>, AllocError>
-    ensures value { IfOk result (λ first. first ≡ unshown stage.now whom.now claim.now) }
-    ensures memory { OnErr result (takes_memory claim.now ≡ true) }
+pub(crate) fn unshown(stage: &Stage, whom: &Whom, claim: &Claim) -> Option<Member>
+    ensures { result ≡ unshown stage.now whom.now claim.now }
 {
     match whom {
-        Whom::One(member) => {
-            let met = is_true_of(alloc, stage, *member, claim)?;
-            Ok((!met).then_some(*member))
-        }
+        Whom::One(member) => (!is_true_of(stage, *member, claim)).then_some(*member),
         Whom::Some(set) => {
             // For its clause: the set is that of its members.
             let _ = set.len();
-            first_such(alloc, stage, whom, claim, false, MAX_MEMBERS)
+            first_such(stage, whom, claim, false, MAX_MEMBERS)
         }
-        _ => { first_such(alloc, stage, whom, claim, false, stage.world().group().n()) }
+        _ => { first_such(stage, whom, claim, false, stage.world().group().n()) }
     }
 }
 
 // The first of so many members that the term is about and of which the claim is true, or is not.
-fn first_such(
-    alloc: Global,
-    stage: &Stage,
-    whom: &Whom,
-    claim: &Claim,
-    wanted: bool,
-    count: u8,
-) -> Result<Option<Member>, AllocError>
+fn first_such(stage: &Stage, whom: &Whom, claim: &Claim, wanted: bool, count: u8) -> Option<Member>
     requires { count ≤ MAX_MEMBERS }
-    ensures value { IfOk result (λ first. first ≡ find (is_such stage.now whom.now claim.now wanted) (members count)) }
-    ensures memory { OnErr result (takes_memory claim.now ≡ true) }
+    ensures { result ≡ find (is_such stage.now whom.now claim.now wanted) (members count) }
 {
     for i in 0..count {
-        if is_such(alloc, stage, whom, claim, wanted, i + 1)? {
-            return Ok(Some(i + 1));
+        if is_such(stage, whom, claim, wanted, i + 1) {
+            return Some(i + 1);
         }
     }
-    Ok(None)
+    None
 }
 
 #[tactic(auto, unfolding(crate::specs::Goals::is_such))]
-fn is_such(
-    alloc: Global,
-    stage: &Stage,
-    whom: &Whom,
-    claim: &Claim,
-    wanted: bool,
-    member: Member,
-) -> Result<bool, AllocError>
-    ensures value { IfOk result (λ met. met ≡ is_such stage.now whom.now claim.now wanted member) }
-    ensures memory { OnErr result (takes_memory claim.now ≡ true) }
+fn is_such(stage: &Stage, whom: &Whom, claim: &Claim, wanted: bool, member: Member) -> bool
+    ensures { result ≡ is_such stage.now whom.now claim.now wanted member }
 {
-    if !is_meant(stage.world(), whom, member) {
-        return Ok(false);
-    }
-    let met = is_true_of(alloc, stage, member, claim)?;
-    Ok(agrees(wanted, met))
+    is_meant(stage.world(), whom, member) && agrees(wanted, is_true_of(stage, member, claim))
 }
 
 // Whether the term is about the member, of those that are looked at.
@@ -133,20 +88,20 @@ fn agrees(wanted: bool, met: bool) -> bool
 
 // ---- when
 
-// Whether the term holds on the stage.
-pub(crate) fn is_met(alloc: Global, stage: &Stage, term: &Term) -> Result<bool, AllocError>
+// Whether the term holds on the stage. What was so at a beginning of the run is found by taking its steps again.
+pub(crate) fn is_met(stage: &Stage, term: &Term) -> Result<bool, AllocError>
     ensures { IfOk result (λ met. met ≡ is_met stage.now term.now) }
 {
-    Ok(is_due(term.when, come_to(alloc, stage, term)?))
+    Ok(is_due(term.when, come_to(stage, term)?))
 }
 
 // What the term comes to on the stage.
-fn come_to(alloc: Global, stage: &Stage, term: &Term) -> Result<bool, AllocError>
+fn come_to(stage: &Stage, term: &Term) -> Result<bool, AllocError>
     ensures { IfOk result (λ seen. seen ≡ come_to term.now.when stage.now term.now) }
 {
     match term.when {
-        When::Now => holds_at(alloc, stage, term),
-        When::Ever | When::Never => was_seen(alloc, stage, term),
+        When::Now => Ok(holds_at(stage, term)),
+        When::Ever | When::Never => was_seen(stage, term),
     }
 }
 
@@ -156,39 +111,35 @@ pub(crate) fn looks(alloc: Global, stage: &Stage, terms: &[Term]) -> Result<Vec<
 {
     let mut looks = Vec::new(alloc);
     for term in terms {
-        looks.push(come_to(alloc, stage, term)?)?;
+        looks.push(come_to(stage, term)?)?;
     }
     Ok(looks)
 }
 
 // Whether what the term says was so at a beginning of the run: its steps are taken again.
-fn was_seen(alloc: Global, stage: &Stage, term: &Term) -> Result<bool, AllocError>
+fn was_seen(stage: &Stage, term: &Term) -> Result<bool, AllocError>
     ensures { IfOk result (λ seen. seen ≡ was_seen stage.now term.now (length stage.now.rehearsal.steps)) }
 {
     let Ok(mut part) = stage.first(0) else {
         return Err(AllocError);
     };
-    let mut seen = holds_at(alloc, &part, term)?;
+    let mut seen = holds_at(&part, term);
     for (i, step) in stage.world().record().iter().enumerate() {
         // The invariant names it.
         let _ = i;
         if part.step(*step).is_err() {
             return Err(AllocError);
         }
-        seen = still_seen(alloc, &part, term, seen)?;
+        seen = still_seen(&part, term, seen);
     }
     Ok(seen)
 }
 
 // Whether that was so before, or is so now.
-fn still_seen(alloc: Global, stage: &Stage, term: &Term, before: bool) -> Result<bool, AllocError>
-    ensures value { IfOk result (λ seen. seen ≡ (before || holds_at stage.now term.now)) }
-    ensures memory { OnErr result (takes_memory term.now.claim ≡ true) }
+fn still_seen(stage: &Stage, term: &Term, before: bool) -> bool
+    ensures { result ≡ (before || holds_at stage.now term.now) }
 {
-    if before {
-        return Ok(true);
-    }
-    holds_at(alloc, stage, term)
+    before || holds_at(stage, term)
 }
 
 // Whether the term holds that came to this.
@@ -213,13 +164,6 @@ pub(crate) fn terms<'g>(goal: Option<&'g Goal>) -> &'g [Term]
     }
 }
 
-// Whether one of these takes memory to be looked at.
-pub(crate) fn take_memory(terms: &[Term]) -> bool
-    ensures { result ≡ take_memory terms.now }
-{
-    terms.iter().any(|term| takes_memory(&term.claim))
-}
-
 // What each term says of the stage.
 pub(crate) fn first_looks(
     alloc: Global,
@@ -230,44 +174,35 @@ pub(crate) fn first_looks(
 {
     let mut looks = Vec::new(alloc);
     for term in terms {
-        looks.push(holds_at(alloc, stage, term)?)?;
+        looks.push(holds_at(stage, term))?;
     }
     Ok(looks)
 }
 
-// Looks at each term on the stage of one step more.
-pub(crate) fn look_again(
-    alloc: Global,
-    stage: &Stage,
-    terms: &[Term],
-    looks: &mut Vec<bool>,
-) -> Result<(), AllocError>
+// Looks at each term on the stage of one step more. What was so once is not looked at again.
+pub(crate) fn look_again(stage: &Stage, terms: &[Term], looks: &mut Vec<bool>)
     requires { length looks.old.items ≡ length terms.now }
-    ensures ok { OnOk result (looks.new.items ≡ looked_at stage.now (length terms.now) terms.now looks.old.items) }
-    ensures memory { OnErr result (take_memory terms.now ≡ true) }
+    ensures { looks.new.items ≡ looked_at stage.now (length terms.now) terms.now looks.old.items }
 {
-    look(alloc, stage, terms, looks)
+    look(stage, terms, looks);
 }
 
-fn look(alloc: Global, stage: &Stage, terms: &[Term], looks: &mut [bool]) -> Result<(), AllocError>
+fn look(stage: &Stage, terms: &[Term], looks: &mut [bool])
     requires { length looks.old ≡ length terms.now }
-    ensures ok { OnOk result (looks.new ≡ looked_at stage.now (length terms.now) terms.now looks.old) }
-    ensures memory { OnErr result (take_memory terms.now ≡ true) }
+    ensures { looks.new ≡ looked_at stage.now (length terms.now) terms.now looks.old }
 {
     for (i, term) in terms.iter().enumerate() {
-        looks[i] = next_look(alloc, stage, term, looks[i])?;
+        looks[i] = next_look(stage, term, looks[i]);
     }
-    Ok(())
 }
 
 // What the term comes to that had come to this before.
-fn next_look(alloc: Global, stage: &Stage, term: &Term, before: bool) -> Result<bool, AllocError>
-    ensures value { IfOk result (λ seen. seen ≡ next_look stage.now term.now before) }
-    ensures memory { OnErr result (takes_memory term.now.claim ≡ true) }
+fn next_look(stage: &Stage, term: &Term, before: bool) -> bool
+    ensures { result ≡ next_look stage.now term.now before }
 {
     match term.when {
-        When::Now => holds_at(alloc, stage, term),
-        When::Ever | When::Never => still_seen(alloc, stage, term, before),
+        When::Now => holds_at(stage, term),
+        When::Ever | When::Never => still_seen(stage, term, before),
     }
 }
 

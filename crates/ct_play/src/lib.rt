@@ -23,7 +23,6 @@ pub use claims::amount_of;
 pub use cuts::first_near;
 pub use expecting::unmet;
 pub use facts::{push_there, push_wanted};
-pub use goals::shows;
 pub use line_fault::LineFault;
 pub use picking::{carried_of, picked, repeated, waiting_at, waits_at};
 pub use playing::play;

@@ -5,17 +5,15 @@ ghost use Rattle.ct_choices.specs.Choices.{question};
 ghost use Rattle.ct_play.specs.Expecting.{all_known, expected_of};
 ghost use Rattle.ct_play.specs.Faults.{IsFaultOf, IsShort};
 ghost use Rattle.ct_play.specs.Parts.{IsTurnedByFirst, IsTurnedPart};
-ghost use Rattle.ct_play.specs.Goals.{looks_of, shows};
 ghost use Rattle.ct_play.specs.Played.{IsLater, with_step};
 ghost use Rattle.ct_play.specs.Turning.{after_attempt, after_round, after_rounds, after_turn, ended, has_ended, is_still, reached};
-ghost use Rattle.std.specs.Option.{ForSome};
 ghost use Rattle.ct_play.specs.Turning.{IsSeen, IsSeenBefore, terms_in};
 ghost use Rattle.ct_play.specs.Turning.{rested, settled, suspected_by, suspects, tried_at, turned};
 ghost use Rattle.ct_play.specs.Who.{named};
 
 use crate::cuts::near;
 use crate::expecting::{all_known, expect_of};
-use crate::goals::{are_due, look_again, looks, shows};
+use crate::goals::{are_due, look_again, looks};
 use crate::line_fault::LineFault;
 use crate::naming::{known, named};
 use crate::stage::Stage;
@@ -24,7 +22,7 @@ use ct_detect::Ask;
 use ct_grammar::{Goal, Play, Term, Who};
 use ct_model::Step;
 use ct_names::{Member, MemberSet};
-use std::alloc::{AllocError, Global};
+use std::alloc::Global;
 
 /// How many rounds of turns a line makes at most that says no number of them.
 pub(crate) const MOST_ROUNDS: u32 = 10_000;
@@ -34,69 +32,53 @@ pub(crate) const MOST_ROUNDS: u32 = 10_000;
 // A turn of the member, which does nothing once the line has come to its end.
 #[tactic(auto, unfolding(crate::specs::Turning::after_turn), using(crate::proofs::Later::later_same))]
 fn turn(
-    alloc: Global,
     stage: &mut Stage,
     play: &Play,
     member: Member,
-    seen: &mut Option<Vec<bool>>,
+    seen: &mut Vec<bool>,
 ) -> Result<(), LineFault>
-    requires { ForSome seen.old (λ looks. IsSeen play.now stage.old looks.items) }
+    requires { IsSeen play.now stage.old seen.old.items }
     ensures ok { OnOk result (stage.new ≡ after_turn play.now stage.old member) }
-    ensures seen { OnOk result (ForSome seen.new (λ looks. IsSeen play.now stage.new looks.items)) }
+    ensures seen { OnOk result (IsSeen play.now stage.new seen.new.items) }
     ensures err { IfErr result IsShort }
     ensures still { OnErr result (stage.new ≡ stage.old) }
     ensures later { IsLater stage.old stage.new }
 {
-    if has_ended(alloc, stage, play, seen)? {
+    if has_ended(stage, play, seen) {
         return Ok(());
     }
     match tried_at(stage, member, suspected_by(play)) {
         None => Ok(()),
-        Some(step) => attempt(alloc, stage, play, step, seen),
+        Some(step) => attempt(stage, play, step, seen),
     }
 }
 
 // Tries the step, and looks at the goal again where it joins the record.
 fn attempt(
-    alloc: Global,
     stage: &mut Stage,
     play: &Play,
     step: Step,
-    seen: &mut Option<Vec<bool>>,
+    seen: &mut Vec<bool>,
 ) -> Result<(), LineFault>
-    requires { ForSome seen.old (λ looks. IsSeen play.now stage.old looks.items) }
+    requires { IsSeen play.now stage.old seen.old.items }
     ensures ok { OnOk result (stage.new ≡ after_attempt stage.old (Some step)) }
-    ensures seen { OnOk result (ForSome seen.new (λ looks. IsSeen play.now stage.new looks.items)) }
+    ensures seen { OnOk result (IsSeen play.now stage.new seen.new.items) }
     ensures err { IfErr result IsShort }
     ensures still { OnErr result (stage.new ≡ stage.old) }
     ensures later { IsLater stage.old stage.new }
 {
     if take(stage, step)? {
-        look(alloc, stage, play, seen);
+        look(stage, play, seen);
     }
     Ok(())
 }
 
-// Looks at the line's goal again, on the stage of one step more. Where memory is refused nothing is kept any more.
-fn look(alloc: Global, stage: &Stage, play: &Play, seen: &mut Option<Vec<bool>>)
-    requires { ForSome seen.old (λ looks. IsSeenBefore play.now stage.now looks.items) }
-    ensures { ForSome seen.new (λ looks. IsSeen play.now stage.now looks.items) }
+// Looks at the line's goal again, on the stage of one step more.
+fn look(stage: &Stage, play: &Play, seen: &mut Vec<bool>)
+    requires { IsSeenBefore play.now stage.now seen.old.items }
+    ensures { IsSeen play.now stage.now seen.new.items }
 {
-    let kept = match seen {
-        None => true,
-        Some(looks) => keeps(alloc, stage, play, looks),
-    };
-    if !kept {
-        *seen = None;
-    }
-}
-
-// Whether each term of the line's goal could be looked at on the stage of one step more.
-fn keeps(alloc: Global, stage: &Stage, play: &Play, looks: &mut Vec<bool>) -> bool
-    requires { IsSeenBefore play.now stage.now looks.old.items }
-    ensures { result ≡ true → IsSeen play.now stage.now looks.new.items }
-{
-    look_again(alloc, stage, terms_in(play), looks).is_ok()
+    look_again(stage, terms_in(play), seen);
 }
 
 // Tries the step; whether it joined the record.
@@ -149,35 +131,14 @@ fn suspected_by(play: &Play) -> MemberSet
 }
 
 // Whether the line's turns have come to their end.
-fn has_ended(
-    alloc: Global,
-    stage: &Stage,
-    play: &Play,
-    seen: &Option<Vec<bool>>,
-) -> Result<bool, AllocError>
-    requires { ForSome seen.now (λ looks. IsSeen play.now stage.now looks.items) }
-    ensures { IfOk result (λ ended. ended ≡ has_ended stage.now play.now) }
+#[tactic(auto, unfolding(crate::specs::Goals::shows), using(crate::proofs::Seeing::due_looks))]
+fn has_ended(stage: &Stage, play: &Play, seen: &[bool]) -> bool
+    requires { IsSeen play.now stage.now seen.now }
+    ensures { result ≡ has_ended stage.now play.now }
 {
     match play {
-        Play::Until(_, _, goal) => is_shown(alloc, stage, goal, seen),
-        _ => Ok(false),
-    }
-}
-
-// Whether the stage shows the goal.
-#[tactic(auto, unfolding(crate::specs::Goals::shows), using(crate::proofs::Seeing::due_looks))]
-fn is_shown(
-    alloc: Global,
-    stage: &Stage,
-    goal: &Goal,
-    seen: &Option<Vec<bool>>,
-) -> Result<bool, AllocError>
-    requires { ForSome seen.now (λ looks. looks.items ≡ looks_of stage.now goal.now) }
-    ensures { IfOk result (λ shown. shown ≡ shows goal.now stage.now) }
-{
-    match seen {
-        Some(looks) => Ok(are_due(&goal.terms, looks)),
-        None => shows(alloc, stage, goal),
+        Play::Until(_, _, goal) => are_due(&goal.terms, seen),
+        _ => false,
     }
 }
 
@@ -195,35 +156,33 @@ fn terms_in<'p>(play: &'p Play) -> &'p [Term]
 
 // A turn of each of these.
 fn round(
-    alloc: Global,
     stage: &mut Stage,
     play: &Play,
     members: &[Member],
-    seen: &mut Option<Vec<bool>>,
+    seen: &mut Vec<bool>,
 ) -> Result<(), LineFault>
-    requires { ForSome seen.old (λ looks. IsSeen play.now stage.old looks.items) }
-    ensures seen { OnOk result (ForSome seen.new (λ looks. IsSeen play.now stage.new looks.items)) }
+    requires { IsSeen play.now stage.old seen.old.items }
+    ensures seen { OnOk result (IsSeen play.now stage.new seen.new.items) }
     ensures ok { OnOk result (stage.new ≡ after_round play.now members.now stage.old) }
     ensures err { IfErr result IsShort }
     ensures part { OnErr result (IsTurnedByFirst play.now members.now stage.old stage.new) }
     ensures later { IsLater stage.old stage.new }
 {
     for member in members {
-        turn(alloc, stage, play, *member, seen)?;
+        turn(stage, play, *member, seen)?;
     }
     Ok(())
 }
 
 // A round, and whether something moved in it.
 fn moving_round(
-    alloc: Global,
     stage: &mut Stage,
     play: &Play,
     members: &[Member],
-    seen: &mut Option<Vec<bool>>,
+    seen: &mut Vec<bool>,
 ) -> Result<bool, LineFault>
-    requires { ForSome seen.old (λ looks. IsSeen play.now stage.old looks.items) }
-    ensures seen { OnOk result (ForSome seen.new (λ looks. IsSeen play.now stage.new looks.items)) }
+    requires { IsSeen play.now stage.old seen.old.items }
+    ensures seen { OnOk result (IsSeen play.now stage.new seen.new.items) }
     ensures ok { OnOk result (stage.new ≡ after_round play.now members.now stage.old) }
     ensures moved { IfOk result (λ moved. moved ≡ not (is_still stage.old stage.new)) }
     ensures rests { result ≡ Ok false → stage.new ≡ stage.old }
@@ -232,22 +191,21 @@ fn moving_round(
     ensures later { IsLater stage.old stage.new }
 {
     let before = stage.world().record().len();
-    round(alloc, stage, play, members, seen)?;
+    round(stage, play, members, seen)?;
     Ok(stage.world().record().len() != before)
 }
 
 // So many rounds. After one in which nothing moved no other moves anything.
 #[tactic(auto, using(crate::proofs::Parts::turned_parts))]
 fn rounds(
-    alloc: Global,
     stage: &mut Stage,
     play: &Play,
     members: &[Member],
     count: u32,
-    seen: &mut Option<Vec<bool>>,
+    seen: &mut Vec<bool>,
 ) -> Result<(), LineFault>
-    requires { ForSome seen.old (λ looks. IsSeen play.now stage.old looks.items) }
-    ensures seen { OnOk result (ForSome seen.new (λ looks. IsSeen play.now stage.new looks.items)) }
+    requires { IsSeen play.now stage.old seen.old.items }
+    ensures seen { OnOk result (IsSeen play.now stage.new seen.new.items) }
     ensures ok { OnOk result (stage.new ≡ after_rounds play.now members.now stage.old count) }
     ensures err { IfErr result IsShort }
     ensures part { OnErr result (IsTurnedPart play.now members.now stage.old count stage.new) }
@@ -256,7 +214,7 @@ fn rounds(
     for i in 0..count {
         // The invariant names it.
         let _ = i;
-        if !moving_round(alloc, stage, play, members, seen)? {
+        if !moving_round(stage, play, members, seen)? {
             return Ok(());
         }
     }
@@ -280,7 +238,8 @@ pub(crate) fn turns(
     ensures later { IsLater stage.old stage.new }
 {
     let members = known(alloc, stage.world().group(), who)?;
-    rounds(alloc, stage, play, &members, count, &mut None)
+    let mut seen = looks(alloc, stage, terms_in(play))?;
+    rounds(stage, play, &members, count, &mut seen)
 }
 
 // Rounds of turns of these members until one in which nothing moved.
@@ -300,16 +259,16 @@ pub(crate) fn settle(
     rest(alloc, stage, play, &members)
 }
 
-#[tactic(auto, using(crate::proofs::Parts::rested_parts), unfolding(crate::specs::Turning::rested))]
+#[tactic(auto, using(crate::proofs::Parts::rested_parts, crate::proofs::Parts::turned_parts), unfolding(crate::specs::Turning::rested))]
 fn rest(alloc: Global, stage: &mut Stage, play: &Play, members: &[Member]) -> Result<(), LineFault>
     ensures ok { OnOk result (rested play.now members.now stage.old ≡ Ok stage.new) }
     ensures err { IfErr result (IsFaultOf (rested play.now members.now stage.old)) }
     ensures part { OnErr result (IsTurnedPart play.now members.now stage.old MOST_ROUNDS stage.new) }
     ensures later { IsLater stage.old stage.new }
 {
-    let mut seen = None;
-    rounds(alloc, stage, play, members, MOST_ROUNDS - 1, &mut seen)?;
-    if moving_round(alloc, stage, play, members, &mut seen)? {
+    let mut seen = looks(alloc, stage, terms_in(play))?;
+    rounds(stage, play, members, MOST_ROUNDS - 1, &mut seen)?;
+    if moving_round(stage, play, members, &mut seen)? {
         Err(LineFault::Restless)
     } else {
         Ok(())
@@ -332,9 +291,9 @@ pub(crate) fn reach(
 {
     let members = known(alloc, stage.world().group(), who)?;
     all_known(alloc, stage.world().group(), goal)?;
-    let mut seen = Some(looks(alloc, stage, terms_in(play))?);
-    rounds(alloc, stage, play, &members, MOST_ROUNDS, &mut seen)?;
-    expect_of(alloc, stage, goal)
+    let mut seen = looks(alloc, stage, terms_in(play))?;
+    rounds(stage, play, &members, MOST_ROUNDS, &mut seen)?;
+    expect_of(stage, goal)
 }
 
 /// The stage on which the line looks at its goal, made anew: the one after its turns, where it makes turns until the goal holds.
@@ -347,8 +306,8 @@ pub fn ended(alloc: Global, stage: &Stage, play: &Play) -> Result<Stage, LineFau
     let mut end = stage.again()?;
     if let Play::Until(who, _, _) = play {
         let members = named(alloc, end.world().group(), *who)?;
-        let mut seen = Some(looks(alloc, &end, terms_in(play))?);
-        rounds(alloc, &mut end, play, &members, MOST_ROUNDS, &mut seen)?;
+        let mut seen = looks(alloc, &end, terms_in(play))?;
+        rounds(&mut end, play, &members, MOST_ROUNDS, &mut seen)?;
     }
     Ok(end)
 }

@@ -1,18 +1,16 @@
 //! Stages on which a goal is looked for.
 
-ghost use Rattle.std.specs.Prelude.{◌≡◌, [], None, Ok, OnOk, IfOk, IfErr, option_map};
-ghost use Rattle.std.specs.Option.{ForSome};
+ghost use Rattle.std.specs.Prelude.{◌≡◌, [], None, Ok, OnOk, OnErr, IfOk, IfErr, option_map};
 ghost use Rattle.ct_world.specs.Setup.{record_of};
-ghost use Rattle.ct_grammar.specs.Sides.{whole};
 ghost use Rattle.ct_play.specs.Acting.{stepped};
-ghost use Rattle.ct_play.specs.Faults.{IsFaultOf, IsKept};
-ghost use Rattle.ct_play.specs.Goals.{is_shown, looks_of, terms, uncut};
+ghost use Rattle.ct_play.specs.Faults.{IsFaultOf};
+ghost use Rattle.ct_play.specs.Goals.{is_shown, uncut};
 ghost use Rattle.ct_play.specs.Played.{with_step};
 
-use crate::goals::{are_due, first_looks, look_again, take_memory, terms};
+use crate::goals::{are_due, first_looks, look_again, terms};
 use crate::line_fault::LineFault;
 use crate::stage::Stage;
-use ct_grammar::{Goal, Term};
+use ct_grammar::Goal;
 use ct_model::Step;
 use ct_world::{Setup, World};
 use std::alloc::Global;
@@ -21,26 +19,15 @@ use std::marker::Model;
 /// A stage, and whether it shows a goal. Its group is not cut.
 #[derive(Drop)]
 pub struct Watch<'g> {
-    alloc: Global,
     stage: Stage,
     goal: Option<&'g Goal>,
     // What each term of the goal came to.
-    looks: Vec<bool>,
-    // It takes the place of a stage at which memory was refused to look.
-    spare: Option<Spare>,
-}
-
-// A stage without steps, and what each term of the goal came to on it.
-#[derive(Drop)]
-struct Spare {
-    stage: Stage,
     looks: Vec<bool>,
 }
 
 // Contracts see the stage and the goal.
 impl<'g> Model for Watch<'g> {
     ghost use Rattle.std.specs.Prelude.{◌≡◌, option_map};
-    ghost use Rattle.std.specs.Option.{ForSome};
     ghost use Rattle.ct_grammar.specs.Sides.{whole};
     ghost use Rattle.ct_play.specs.Goals.{Watched, looks_of, terms};
 
@@ -49,9 +36,7 @@ impl<'g> Model for Watch<'g> {
     ghost view = { λ w. record { played = w.stage; goal = option_map (λ goal. goal.now) w.goal } };
 
     ghost invariant = { λ w. (w.looks.items ≡ looks_of w.stage (terms (option_map (λ goal. goal.now) w.goal)))
-        × (w.stage.sides ≡ whole)
-        × ForSome w.spare (λ spare. (spare.looks.items ≡ looks_of spare.stage (terms (option_map (λ goal. goal.now) w.goal)))
-        × (spare.stage.sides ≡ whole)) };
+        × (w.stage.sides ≡ whole) };
 }
 
 impl<'g> Watch<'g> {
@@ -61,16 +46,9 @@ impl<'g> Watch<'g> {
             record { played = uncut (record_of setup []); goal = option_map (λ goal. goal.now) goal.entry }) }
         ensures err { IfErr result (λ fault. fault ≡ LineFault.OutOfMemory) }
     {
-        let terms = terms(goal);
-        let spare = spare_of(alloc, &setup, terms)?;
-        let Spare { stage, looks } = first_of(alloc, &setup, terms)?;
-        Ok(Watch {
-            alloc,
-            stage,
-            goal,
-            looks,
-            spare,
-        })
+        let stage = Stage::new(alloc, setup)?;
+        let looks = first_looks(alloc, &stage, terms(goal))?;
+        Ok(Watch { stage, goal, looks })
     }
 
     /// The same, with an index of what is sent.
@@ -82,30 +60,18 @@ impl<'g> Watch<'g> {
         watch
     }
 
-    /// Takes the step, unless the rules refuse it; then nothing changes. Where memory is refused all steps may be gone, and no
-    /// more be taken.
+    /// Takes the step, unless the rules refuse it; one that is not taken changes nothing.
     pub fn step(&mut self, step: Step) -> Result<(), LineFault>
         ensures ok { OnOk result (stepped self.old.played step ≡ Ok self.new.played) }
         ensures joined { OnOk result (self.new.played ≡ with_step self.old.played step) }
         ensures goal { self.new.goal ≡ self.old.goal }
         ensures sides { self.new.played.sides ≡ self.old.played.sides }
         ensures err { IfErr result (IsFaultOf (stepped self.old.played step)) }
-        ensures same { IfErr result (IsKept self.old self.new) }
+        ensures same { OnErr result (self.new ≡ self.old) }
     {
-        let terms = terms(self.goal);
-        if self.spare.is_none() && take_memory(terms) {
-            return Err(LineFault::OutOfMemory);
-        }
         self.stage.step(step)?;
-        if look_again(self.alloc, &self.stage, terms, &mut self.looks).is_ok() {
-            return Ok(());
-        }
-        let Some(spare) = self.spare.take() else {
-            unreachable!()
-        };
-        self.stage = spare.stage;
-        self.looks = spare.looks;
-        Err(LineFault::OutOfMemory)
+        look_again(&self.stage, terms(self.goal), &mut self.looks);
+        Ok(())
     }
 
     /// Whether the stage shows the goal; what is not asked for is not shown.
@@ -132,36 +98,10 @@ impl<'g> Watch<'g> {
         ensures none { result.prepared ≡ None }
     {
         let Watch {
-            alloc: _,
             stage,
             goal: _,
             looks: _,
-            spare: _,
         } = self;
         stage.into_world()
     }
-}
-
-// One, where looking at these terms takes memory.
-fn spare_of(alloc: Global, setup: &Setup, terms: &[Term]) -> Result<Option<Spare>, LineFault>
-    ensures ok { IfOk result (λ option. ForSome option (λ spare. (spare.looks.items ≡ looks_of spare.stage terms.now)
-        × (spare.stage.sides ≡ whole))) }
-    ensures err { IfErr result (λ fault. fault ≡ LineFault.OutOfMemory) }
-{
-    if take_memory(terms) {
-        Ok(Some(first_of(alloc, setup, terms)?))
-    } else {
-        Ok(None)
-    }
-}
-
-// A stage without steps, and what each term came to on it.
-fn first_of(alloc: Global, setup: &Setup, terms: &[Term]) -> Result<Spare, LineFault>
-    ensures ok { IfOk result (λ spare. spare.stage ≡ uncut (record_of setup.now [])) }
-    ensures looks { IfOk result (λ spare. spare.looks.items ≡ looks_of spare.stage terms.now) }
-    ensures err { IfErr result (λ fault. fault ≡ LineFault.OutOfMemory) }
-{
-    let stage = Stage::new(alloc, *setup)?;
-    let looks = first_looks(alloc, &stage, terms)?;
-    Ok(Spare { stage, looks })
 }

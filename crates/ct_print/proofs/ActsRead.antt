@@ -13,7 +13,7 @@ use Rattle.ct_grammar.specs.declared.carried.Carried.TheVariants.{Data}
 use Rattle.ct_grammar.specs.declared.pick.Pick.{Pick}
 use Rattle.ct_grammar.specs.declared.pick.Pick.TheVariants.{Serial, First}
 use Rattle.ct_grammar.specs.Acts.{operands, named_command, command_first, short_act, lose_first, picked_act, long_act, act_first}
-use Rattle.ct_grammar.specs.Leading.{number_first, member_first, whole_first, set_first}
+use Rattle.ct_grammar.specs.Leading.{number_first, member_first, whole_first, set_first, lone_whole, over}
 use Rattle.ct_grammar.specs.Numbers.{max_u8, max_u32, max_u64, members_of}
 use Rattle.ct_grammar.specs.Picks.{serial_of, message_first, place_first, carried_first, sent_pick, pick_first}
 use Rattle.ct_grammar.specs.Words.{Word}
@@ -38,6 +38,10 @@ member_is_first p what words h = number_is_first 0 max_u8 p what words (omega ar
 pub whole_is_first : (n : ℕ) (what : _) (words : List Word) → n ≤ max_u32 → whole_first what (decimal n ∷ words) ≡ Ok (n, words)
 unfolding whole_first
 whole_is_first n what words h = number_is_first 0 max_u32 n what words (omega arith) (omega arith) h
+
+pub alone_back : (n : ℕ) (what : _) → n ≤ max_u32 → lone_whole what (decimal n ∷ []) ≡ Ok n
+unfolding lone_whole over
+alone_back n what h = rw (whole_is_first n what [] h) refl
 
 pub set_back : (set : List ℕ) → IsSomeSet set → members_of (set_text set) ≡ Some set
 unfolding set_text

@@ -21,7 +21,7 @@ use Rattle.ct_print.specs.Members.{set_text}
 use Rattle.ct_print.specs.Writable.{IsCut}
 use Rattle.ct_print.proofs.Numerals.{number_in_back}
 use Rattle.ct_print.proofs.Numeric.{IsNumeric, numeric_reads, decimal_digits}
-use Rattle.ct_print.proofs.Parts.{AreSmall, numbers_text, parts_of, parted_behind, alone_parted}
+use Rattle.ct_print.proofs.Parts.{AreSmall, numbers_text, parts_of, parted_behind, digits_lack, alone_parted}
 use Rattle.ct_print.proofs.TextWords.{Reads, beside, word_before}
 use Rattle.ct_print.proofs.Spoken.{set_numeric}
 
@@ -108,7 +108,8 @@ set_parts s (next ∷ others) now small =
     let here : IsMember MAX_MEMBERS s = small s (inl refl) in
     rw (
       parts_of s (next ∷ others) small,
-      parted_behind 44 (decimal s) (numbers_text (next ∷ others)) refl (decimal_digits s (omega (arith, here.1))),
+      parted_behind 44 (decimal s) (numbers_text (next ∷ others))
+          (digits_lack 44 (decimal s) refl (decimal_digits s (omega (arith, here.1)))),
       number_in_back 1 MAX_MEMBERS s (omega arith) here.0 here.1,
     ) refl
 

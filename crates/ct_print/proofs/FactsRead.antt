@@ -1,5 +1,5 @@
 -- Facts and members, written and read.
-use Rattle.std.proofs.Common.{◌≡◌, ℕ, ◌≤◌, ◌==◌, ◌||◌, Bool, true, false, List, [], ◌∷◌, ◌++◌, length, refl, sym, ap, ◌∙◌, arith}
+use Rattle.std.proofs.Common.{◌≡◌, ℕ, ◌==◌, ◌||◌, Bool, true, false, List, [], ◌∷◌, ◌++◌, length, map, refl, sym, ap, ◌∙◌, arith}
 use Rattle.std.proofs.Common.{append-nil, inl, inr}
 use Rattle.std.specs.Prelude.{codes, decimal, Some, Ok}
 use Rattle.std.specs.Str.{bytes_eq}
@@ -20,41 +20,26 @@ use Rattle.ct_grammar.specs.declared.reason.Reason.{Reason}
 use Rattle.ct_grammar.specs.declared.reason.Reason.TheVariants.{Rules}
 use Rattle.ct_grammar.specs.declared.who.Who.{Who}
 use Rattle.ct_grammar.specs.declared.who.Who.TheVariants.{One, Some as Several, All}
-use Rattle.ct_grammar.specs.Facts.{phase_of, short_fact, ended, lone_act, lone_pick, lone_whole, phase_first, reason_first, refusal_of}
-use Rattle.ct_grammar.specs.Facts.{act_fact, number_fact, set_or_dash, lone_set, some_words, quotes_words, text_fact, named_fact}
+use Rattle.ct_grammar.specs.Facts.{phase_of, short_fact, ended, lone_act, lone_pick, phase_first, reason_first, refusal_of}
+use Rattle.ct_grammar.specs.Facts.{act_fact, number_fact, set_or_dash, lone_set, named_fact}
 use Rattle.ct_grammar.specs.Leading.{over}
-use Rattle.ct_grammar.specs.Numbers.{max_u8, max_u32, members_of, has_comma}
+use Rattle.ct_grammar.specs.Numbers.{max_u8, members_of, has_comma}
 use Rattle.ct_grammar.specs.Reasons.{reason_text, full_of, step_reason, reason_of}
 use Rattle.ct_grammar.specs.Who.{who_of}
-use Rattle.ct_grammar.specs.Words.{Word, words_of, text_of}
+use Rattle.ct_grammar.specs.Words.{Word}
 use Rattle.ct_print.specs.Facts.{fact_text, phase_word}
 use Rattle.ct_print.specs.Members.{set_text, set_or_dash_text, list_text, who_text}
-use Rattle.ct_print.specs.Writable.{IsSet, IsSomeSet, WhoFits, ActFits, PickFits, FactFits, IsQuotable, IsQuoted, IsRules}
-use Rattle.ct_print.proofs.ActsRead.{set_back, whole_is_first, pick_back, act_back}
+use Rattle.ct_print.specs.Reports.{name_text, decision_text}
+use Rattle.ct_print.specs.Writable.{IsSet, IsSomeSet, WhoFits, ActFits, PickFits, FactFits, IsRules}
+use Rattle.ct_print.proofs.ActsRead.{alone_back, set_back, pick_back, act_back}
 use Rattle.ct_print.proofs.Numerals.{number_back}
 use Rattle.ct_print.proofs.Numeric.{numeric_other, decimal_numeric, decimal_digits}
 use Rattle.ct_print.proofs.Parts.{AreSmall, numbers_text, members_back, alone_no_comma, list_has_comma}
 use Rattle.ct_print.proofs.NoAnd.{Says, said, says_beside, led, spoken}
-use Rattle.ct_print.proofs.Spoken.{pick_words, act_words, pick_says, act_says, quoted_reads, set_numeric, set_says, small_members}
+use Rattle.ct_print.proofs.ReportsRead.{or_dash, names_say, messages_back, decisions_say, decisions_back, estimate_words, estimate_says}
+use Rattle.ct_print.proofs.ReportsRead.{estimate_back, table_words, table_says, table_back}
+use Rattle.ct_print.proofs.Spoken.{pick_words, act_words, pick_says, act_says, set_numeric, set_says, small_members}
 use Rattle.ct_print.proofs.Spoken.{list_numeric, some_length, some_set}
-
--- ---- quoted texts
-
-quoted_says : (name : Word) (text : List ℕ) → IsQuoted name text → Says text (words_of text)
-quoted_says name text h = record { reads = quoted_reads text h.quotable; no_and = h.no_and }
-
-pub some_of : (text : List ℕ) → IsQuotable text → some_words (words_of text) ≡ Ok tt
-unfolding some_words
-some_of text h = go (words_of text) refl
-  where
-    go : (ws : List Word) → words_of text ≡ ws → some_words ws ≡ Ok tt
-    go [] e =
-        let nothing : text ≡ [] = sym h.words ∙ ap text_of e in
-        absurd (omega (arith, h.some, ap length nothing))
-    go (w ∷ ws) e = refl
-
-text_again : (text : List ℕ) → IsQuotable text → text_of (words_of text) ≡ text
-text_again text h = h.words
 
 -- ---- members
 
@@ -134,34 +119,34 @@ fact_name Idle = codes "idle"
 fact_name (Instance i) = codes "instance"
 fact_name (Round r) = codes "round"
 fact_name (InPhase phase) = codes "phase"
-fact_name (Received quoted) = codes "received"
-fact_name (Decided quoted) = codes "decided"
-fact_name (Delivered quoted) = codes "delivered"
-fact_name (Table quoted) = codes "table"
+fact_name (Received names) = codes "received"
+fact_name (Decided decisions) = codes "decided"
+fact_name (Delivered names) = codes "delivered"
+fact_name (Table values) = codes "table"
 fact_name (Refuses act reason) = codes "refuses"
 fact_name (May act) = codes "may"
 fact_name (Waiting n) = codes "waiting"
 fact_name (Waits pick) = codes "waits"
 fact_name (Heard set) = codes "heard"
 fact_name (Acked set) = codes "acked"
-fact_name (Estimate quoted) = codes "estimate"
+fact_name (Estimate estimate) = codes "estimate"
 
 -- the words behind the name
 abbrev pub fact_rest : Fact → List Word
 fact_rest (Instance i) = decimal i ∷ []
 fact_rest (Round r) = decimal r ∷ []
 fact_rest (InPhase phase) = phase_word phase ∷ []
-fact_rest (Received quoted) = words_of quoted
-fact_rest (Decided quoted) = words_of quoted
-fact_rest (Delivered quoted) = words_of quoted
-fact_rest (Table quoted) = words_of quoted
+fact_rest (Received names) = or_dash (map name_text names)
+fact_rest (Decided decisions) = or_dash (map decision_text decisions)
+fact_rest (Delivered names) = or_dash (map name_text names)
+fact_rest (Table values) = table_words values
 fact_rest (Refuses act reason) = act_words act ++ (reason_text reason ∷ [])
 fact_rest (May act) = act_words act
 fact_rest (Waiting n) = decimal n ∷ []
 fact_rest (Waits pick) = pick_words pick
 fact_rest (Heard set) = set_or_dash_text set ∷ []
 fact_rest (Acked set) = set_or_dash_text set ∷ []
-fact_rest (Estimate quoted) = words_of quoted
+fact_rest (Estimate estimate) = estimate_words estimate
 fact_rest _ = []
 
 abbrev pub fact_words : Fact → List Word
@@ -176,11 +161,7 @@ unfolding fact_text
 fact_says (Refuses act reason) h =
     led (codes "refuses") _ _ (said _ refl refl)
     (says_beside _ (reason_text reason) (act_words act) (reason_text reason ∷ []) (act_says act h.0) (reason_says reason))
-fact_says _ h = search (spoken, phase_says, quoted_says, act_says, pick_says, set_or_dash_says)
-
-pub alone_back : (n : ℕ) (what : _) → n ≤ max_u32 → lone_whole what (decimal n ∷ []) ≡ Ok n
-unfolding lone_whole over
-alone_back n what h = rw (whole_is_first n what [] h) refl
+fact_says _ h = search (spoken, phase_says, names_say, decisions_say, table_says, estimate_says, act_says, pick_says, set_or_dash_says)
 
 act_alone : (act : Act) → ActFits act → lone_act (act_words act) ≡ Ok act
 unfolding lone_act ended over
@@ -197,7 +178,7 @@ refusal_back act reason h k =
     rw (act_back act _ (reason_text reason ∷ []) h (reason_no_from reason), reason_back reason k) refl
 
 pub fact_back : (fact : Fact) → FactFits fact → named_fact (fact_name fact) (fact_rest fact) ≡ Ok fact
-unfolding named_fact quotes_words text_fact number_fact act_fact short_fact phase_first phase_of over
+unfolding named_fact number_fact act_fact short_fact phase_first phase_of over
 fact_back (InPhase Rest) h = refl
 fact_back (Refuses act reason) h = refusal_back act reason h.0 h.1
-fact_back _ h = search (some_of, text_again, set_alone, alone_back, act_alone, pick_alone)
+fact_back _ h = search (messages_back, decisions_back, table_back, estimate_back, set_alone, alone_back, act_alone, pick_alone)

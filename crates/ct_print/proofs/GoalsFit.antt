@@ -1,27 +1,27 @@
 -- Goals that are read can be written.
-use Rattle.std.proofs.Common.{◌≡◌, ℕ, ◌≤◌, ◌<◌, Bool, true, false, not, cond, List, [], ◌∷◌, length, refl, arith}
+use Rattle.std.proofs.Common.{◌≡◌, ℕ, ◌≤◌, ◌<◌, Bool, true, false, cond, List, [], ◌∷◌, length, refl, arith}
 use Rattle.std.proofs.lemmas.List.Splits.{length-slice_split}
 use Rattle.std.specs.Prelude.{Option, Some, None, Result, Ok, Err, IfOk, IfSome}
 use Rattle.std.specs.List.{list_all, slice_split, onto_first}
-use Rattle.ct_names.proofs.Lists.{both-left, both-right}
+use Rattle.ct_names.proofs.Lists.{both-left}
 use Rattle.ct_grammar.specs.declared.claim.Amount.{Amount}
 use Rattle.ct_grammar.specs.declared.claim.Claim.{Claim}
 use Rattle.ct_grammar.specs.declared.claim.Claim.TheVariants as claims
 use Rattle.ct_grammar.specs.declared.reason.Reason.{Reason}
 use Rattle.ct_grammar.specs.declared.term.Term.{Term}
 use Rattle.ct_grammar.specs.declared.term.When.{When}
-use Rattle.ct_grammar.specs.Claims.{extent_of, counted, at_least, one_number, decided, name_of, in_order, before, delivered, chosen}
+use Rattle.ct_grammar.specs.Claims.{extent_of, counted, at_least, one_number, decided, in_order, before, delivered, chosen}
 use Rattle.ct_grammar.specs.Claims.{refused_choice, refused, lone_claim, word_alone, followed, step_claim, event_claim, amount_claim}
 use Rattle.ct_grammar.specs.Claims.{or_fact, claim_of}
 use Rattle.ct_grammar.specs.Facts.{named_fact}
 use Rattle.ct_grammar.specs.Goals.{is_and, whom_of, claimed, term_of, parts_of, told_before_and, terms_of, goal_in, goal_of}
 use Rattle.ct_grammar.specs.Numbers.{max_u32}
 use Rattle.ct_grammar.specs.Words.{Word, words_of}
-use Rattle.ct_print.specs.Writable.{IsCounted, IsRules, ClaimFits, NameFits, WhomFits, TermFits, GoalFits}
-use Rattle.ct_print.proofs.FactsFit.{alone_fits, fact_fits, reason_rules}
-use Rattle.ct_print.proofs.NoAnd.{HasNoAnd}
-use Rattle.ct_print.proofs.Readable.{steps, ok_weaker, mapped, May, Gives, AreWords, words_behind, number_within, two_within}
+use Rattle.ct_print.specs.Writable.{IsCounted, IsRules, ClaimFits, WhomFits, TermFits, GoalFits}
+use Rattle.ct_print.proofs.FactsFit.{fact_fits, reason_rules}
+use Rattle.ct_print.proofs.Readable.{steps, ok_weaker, mapped, May, Gives, AreWords, words_behind, number_within}
 use Rattle.ct_print.proofs.Readable.{members_are_set}
+use Rattle.ct_print.proofs.ReportsFit.{alone_fits, name_fits}
 use Rattle.ct_print.proofs.TextWords.{is_word, words_are_words}
 
 -- the claim, where there is one, can be written
@@ -57,10 +57,6 @@ decided_fits : (count : Option (Result Claim _)) (words : List Word) → MayFit 
 unfolding decided
 decided_fits (Some count) words h = h
 decided_fits None words h = search (steps, one_number_fits)
-
-name_fits : (word : Word) → May (name_of word) NameFits
-unfolding name_of
-name_fits word Q k = search (steps, two_within)
 
 order_fits : (first second : Word) → IfOk (in_order first second) ClaimFits
 unfolding in_order
@@ -109,19 +105,15 @@ unfolding amount_claim event_claim
 amount_fits name words g =
     search (steps, at_least_fits, counted_fits, decided_fits, delivered_fits, refused_fits, step_fits) depth 12
 
-behind_no_and : (word : Word) (words : List Word) → HasNoAnd (word ∷ words) → HasNoAnd words
-behind_no_and word words h = both-right (not (is_and word)) (list_all (λ w. not (is_and w)) words) h
-
-claim_fits : (words : List Word) → AreWords words → HasNoAnd words → Gives (claim_of words) ClaimFits
+claim_fits : (words : List Word) → AreWords words → Gives (claim_of words) ClaimFits
 unfolding claim_of or_fact
-claim_fits [] g n Q k = tt
-claim_fits (name ∷ words) g n Q k =
-    ok_weaker ClaimFits Q _ (go (amount_claim name words) refl (amount_fits name words (words_behind name words g))) k
+claim_fits [] g Q k = tt
+claim_fits (name ∷ words) g Q k =
+    ok_weaker ClaimFits Q _ (go (amount_claim name words) (amount_fits name words (words_behind name words g))) k
   where
-    go : (o : Option (Result Claim _)) → amount_claim name words ≡ o → MayFit o → IfOk (or_fact o name words) ClaimFits
-    go (Some r) e h = h
-    go None e h =
-        mapped ClaimFits _ (named_fact name words) (fact_fits name words (words_behind name words g) (behind_no_and name words n) e)
+    go : (o : Option (Result Claim _)) → MayFit o → IfOk (or_fact o name words) ClaimFits
+    go (Some r) h = h
+    go None h = mapped ClaimFits _ (named_fact name words) (fact_fits name words (words_behind name words g))
 
 -- ---- terms
 
@@ -129,16 +121,15 @@ whom_fits : (word : Word) → May (whom_of word) WhomFits
 unfolding whom_of
 whom_fits word Q k = search (steps, members_are_set, number_within) depth 8
 
-claimed_fits : (when : When) (what : _) (words : List Word) → AreWords words → HasNoAnd words →
-    Gives (claimed when what words) TermFits
+claimed_fits : (when : When) (what : _) (words : List Word) → AreWords words → Gives (claimed when what words) TermFits
 unfolding claimed
-claimed_fits when what [] g n Q k = tt
-claimed_fits when what (word ∷ words) g n Q k = search (steps, whom_fits, claim_fits, behind_no_and) depth 7
+claimed_fits when what [] g Q k = tt
+claimed_fits when what (word ∷ words) g Q k = search (steps, whom_fits, claim_fits) depth 7
 
-term_fits : (words : List Word) → AreWords words → HasNoAnd words → Gives (term_of words) TermFits
+term_fits : (words : List Word) → AreWords words → Gives (term_of words) TermFits
 unfolding term_of
-term_fits [] g n Q k = tt
-term_fits (word ∷ words) g n Q k = search (steps, claimed_fits, behind_no_and)
+term_fits [] g Q k = tt
+term_fits (word ∷ words) g Q k = search (steps, claimed_fits)
 
 -- ---- goals
 
@@ -146,28 +137,24 @@ before_and_fits : (P : Term → Type 0) (words : List Word) (r : Result Term _) 
 before_and_fits P words (Ok x) h = h
 before_and_fits P words (Err unfit) h = tt
 
--- words of lines, of which none is `and`
-abbrev pub IsPart : List Word → Type 0
-IsPart words = AreWords words × HasNoAnd words
-
+-- each part is words of lines
 abbrev pub AreParts : List (List Word) → Type 0
 AreParts [] = Unit {0}
-AreParts (part ∷ parts) = IsPart part × AreParts parts
+AreParts (part ∷ parts) = AreWords part × AreParts parts
 
-longer_part : (word : Word) (parts : List (List Word)) → is_word word ≡ true → is_and word ≡ false → AreParts parts →
-    AreParts (onto_first word parts)
-longer_part word [] w e h = ((rw w refl, rw e refl), tt)
-longer_part word (part ∷ parts) w e h = ((rw w h.0.0, rw e h.0.1), h.1)
+longer_part : (word : Word) (parts : List (List Word)) → is_word word ≡ true → AreParts parts → AreParts (onto_first word parts)
+longer_part word [] w h = (rw w refl, tt)
+longer_part word (part ∷ parts) w h = (rw w h.0, h.1)
 
 parts_are : (words : List Word) → AreWords words → AreParts (parts_of words)
-parts_are [] g = ((refl, refl), tt)
+parts_are [] g = (refl, tt)
 parts_are (word ∷ words) g =
-    go (is_and word) refl (both-left (is_word word) (list_all is_word words) g) (parts_are words (words_behind word words g))
+    go (is_and word) (both-left (is_word word) (list_all is_word words) g) (parts_are words (words_behind word words g))
   where
-    go : (b : Bool) → is_and word ≡ b → is_word word ≡ true → AreParts (slice_split is_and words) →
+    go : (b : Bool) → is_word word ≡ true → AreParts (slice_split is_and words) →
         AreParts (cond b ([] ∷ slice_split is_and words) (onto_first word (slice_split is_and words)))
-    go true e w h = ((refl, refl), h)
-    go false e w h = longer_part word (slice_split is_and words) w e h
+    go true w h = (refl, h)
+    go false w h = longer_part word (slice_split is_and words) w h
 
 -- no goal is without terms, so no part is
 some_more : (term : Term) (terms : List Term) → TermFits term → GoalFits terms → GoalFits (term ∷ terms)

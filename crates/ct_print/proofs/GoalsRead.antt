@@ -13,21 +13,24 @@ use Rattle.ct_grammar.specs.declared.claim.Name.{Name}
 use Rattle.ct_grammar.specs.declared.fact.Fact.{Fact}
 use Rattle.ct_grammar.specs.declared.fact.Fact.TheVariants.{Received, Decided, Delivered, Refuses}
 use Rattle.ct_grammar.specs.declared.reason.Reason.{Reason}
-use Rattle.ct_grammar.specs.Claims.{extent_of, counted, at_least, one_number, decided, name_of, in_order, before, delivered, chosen}
+use Rattle.ct_grammar.specs.Claims.{extent_of, counted, at_least, one_number, decided, in_order, before, delivered, chosen}
 use Rattle.ct_grammar.specs.Claims.{refused_choice, refused, word_alone, followed, step_claim, event_claim, amount_claim, or_fact, claim_of}
 use Rattle.ct_grammar.specs.Facts.{named_fact}
 use Rattle.ct_grammar.specs.Leading.{over}
+use Rattle.ct_grammar.specs.Names.{name_of}
 use Rattle.ct_grammar.specs.Numbers.{max_u8, max_u32}
 use Rattle.ct_grammar.specs.Reasons.{reason_text, reason_of, step_reason, full_of}
 use Rattle.ct_grammar.specs.Words.{Word}
 use Rattle.ct_print.specs.Acts.{message_word}
 use Rattle.ct_print.specs.Goals.{amount_text, extent_text, claim_text}
+use Rattle.ct_print.specs.Reports.{name_text}
 use Rattle.ct_print.specs.Writable.{ActFits, FactFits, AmountFits, NameFits, ClaimFits, IsRules}
-use Rattle.ct_print.proofs.FactsRead.{fact_name, fact_rest, fact_words, fact_says, fact_back, alone_back, reason_back, reason_says}
+use Rattle.ct_print.proofs.ActsRead.{alone_back}
+use Rattle.ct_print.proofs.FactsRead.{fact_name, fact_rest, fact_words, fact_says, fact_back, reason_back, reason_says}
 use Rattle.ct_print.proofs.NoAnd.{Says, says_beside, numeric_says, whole_says, spoken}
 use Rattle.ct_print.proofs.Numerals.{number_back}
 use Rattle.ct_print.proofs.Numeric.{IsNumeric, numeric_other, decimal_numeric}
-use Rattle.ct_print.proofs.Parts.{two_back}
+use Rattle.ct_print.proofs.ReportsRead.{name_back, only_received, only_decided, only_delivered}
 use Rattle.ct_print.proofs.Spoken.{act_words, message_numeric}
 
 -- ---- facts, as claims
@@ -58,9 +61,9 @@ exactly what n h = rw (numeric_other (decimal n) 62 _ refl (decimal_numeric n (o
 
 only_fact : (fact : Fact) → FactFits fact → amount_claim (fact_name fact) (fact_rest fact) ≡ None
 unfolding amount_claim event_claim step_claim
-only_fact (Received quoted) h = h.plain
-only_fact (Decided quoted) h = h.plain
-only_fact (Delivered quoted) h = h.plain
+only_fact (Received names) h = only_received names h
+only_fact (Decided decisions) h = only_decided decisions h
+only_fact (Delivered names) h = only_delivered names h
 only_fact (Refuses act reason) h = act_refused act _ h.0
 only_fact _ h = search exactly
 
@@ -141,14 +144,14 @@ got_back : (i : ℕ) → i ≤ max_u32 → claim_of (codes "decided" ∷ decimal
 unfolding claim_of or_fact amount_claim event_claim decided one_number
 got_back i h = rw (not_counted _ (decimal i) [] (decimal_numeric i (omega arith)), number_back max_u32 i (omega arith) h) refl
 
-name_back : (name : Name) → NameFits name → name_of (message_word name.origin name.number) ≡ Some name
-unfolding name_of message_word
-name_back name h = rw (two_back 46 max_u8 max_u32 name.origin name.number refl (omega arith) (omega arith) h.0 h.1) refl
+word_back : (name : Name) → NameFits name → name_of (message_word name.origin name.number) ≡ Some name
+unfolding message_word name_text
+word_back name h = name_back name h
 
 order_back : (a b : Name) → NameFits a → NameFits b →
     in_order (message_word a.origin a.number) (message_word b.origin b.number) ≡ Ok (claims.Before a b)
 unfolding in_order
-order_back a b h k = rw (name_back a h, name_back b k) refl
+order_back a b h k = rw (word_back a h, word_back b k) refl
 
 before_back : (a b : Name) → NameFits a → NameFits b →
     claim_of (codes "delivered" ∷ message_word a.origin a.number ∷ codes "before" ∷ message_word b.origin b.number ∷ []) ≡ Ok

@@ -13,6 +13,8 @@ pub mod Numerals
 pub mod Numeric
 pub mod Parts
 pub mod Readable
+pub mod ReportsFit
+pub mod ReportsRead
 pub mod Spoken
 pub mod TermsRead
 pub mod TextWords

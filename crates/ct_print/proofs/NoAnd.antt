@@ -9,7 +9,7 @@ use Rattle.ct_grammar.specs.Goals.{is_and, parts_of}
 use Rattle.ct_grammar.specs.Numbers.{max_u8, max_u32, max_u64}
 use Rattle.ct_grammar.specs.Words.{Word}
 use Rattle.ct_print.proofs.Numeric.{IsNumeric, numeric_other, numeric_reads, decimal_numeric}
-use Rattle.ct_print.proofs.TextWords.{Reads, beside, is_word, word_reads}
+use Rattle.ct_print.proofs.TextWords.{Reads, beside, is_word, one_part, word_reads}
 
 abbrev pub HasNoAnd : List Word → Type 0
 HasNoAnd words = list_all (λ word. not (is_and word)) words ≡ true
@@ -25,11 +25,7 @@ part_before (word ∷ words) others h =
     ∙ ap (onto_first word) (part_before words others (both-right (not (is_and word)) (list_all (λ w. not (is_and w)) words) h))
 
 pub part_alone : (words : List Word) → HasNoAnd words → parts_of words ≡ words ∷ []
-part_alone [] h = refl
-part_alone (word ∷ words) h =
-    slice_split-cons_no is_and word words
-    (not-true (is_and word) (both-left (not (is_and word)) (list_all (λ w. not (is_and w)) words) h))
-    ∙ ap (onto_first word) (part_alone words (both-right (not (is_and word)) (list_all (λ w. not (is_and w)) words) h))
+part_alone words h = one_part is_and words h
 
 -- ---- texts that say them
 

@@ -1,6 +1,6 @@
 -- Numbers, as they are written and read.
-use Rattle.std.proofs.Common.{◌≡◌, ℕ, ◌+◌, ◌-◌, ◌*◌, ◌/◌, ◌%◌, ◌<◌, ◌≤◌, ◌^◌, true, cond, leb, [], ◌∷◌, ◌++◌, length, refl, sym, ap, ◌∙◌}
-use Rattle.std.proofs.Common.{arith, append_assoc, append-nil, length-append}
+use Rattle.std.proofs.Common.{◌≡◌, ℕ, ◌+◌, ◌-◌, ◌*◌, ◌/◌, ◌%◌, ◌<◌, ◌≤◌, ◌^◌, true, false, cond, leb, [], ◌∷◌, ◌++◌, length, refl, sym, ap}
+use Rattle.std.proofs.Common.{◌∙◌, arith, append_assoc, append-nil, length-append}
 use Rattle.std.specs.Prelude.{decimal, Some, None}
 use Rattle.std.specs.Char.{is_ascii_digit}
 use Rattle.std.specs.List.{list_all}
@@ -61,3 +61,12 @@ unfolding number_in
 number_in_back low high n small l m =
     let within : leb low n ≡ true = grind (arith, nat_tests) in
     rw (number_back high n small m, within) refl
+
+-- digits with another byte behind them are no number
+pub no_number : (high n c : ℕ) (cs : Word) → n < 2 ^ 64 → is_ascii_digit c ≡ false → number_of high (decimal n ++ c ∷ cs) ≡ None
+unfolding number_of
+no_number high n c cs h e = go (decimal n) (decimal_is_number n h)
+  where
+    go : (digits : Word) → IsNumber n digits → number_of high (digits ++ c ∷ cs) ≡ None
+    go [] k = absurd (omega (arith, k.some))
+    go (d ∷ ds) k = k.reads high (c ∷ cs) ∙ rw e refl

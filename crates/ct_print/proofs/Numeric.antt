@@ -69,10 +69,16 @@ two_numeric m n at h k e =
     numeric_behind (decimal m) (at ∷ (decimal n ++ [])) (decimal_numeric m h)
     (rw e (list_all-append is_letter (decimal n) [] ∙ rw (decimal_numeric n k).letters refl))
 
--- numbers with commas between them
-pub joined_numeric : (p : ℕ) (ps : List ℕ) → ((q : ℕ) → IsIn q (p ∷ ps) → q < 2 ^ 64) →
-    IsNumeric (join_with_byte 44 (map decimal (p ∷ ps)))
-joined_numeric p [] h = decimal_numeric p (h p (inl refl))
-joined_numeric p (next ∷ ps) h =
-    numeric_behind (decimal p) (44 ∷ join_with_byte 44 (map decimal (next ∷ ps))) (decimal_numeric p (h p (inl refl)))
-    (joined_numeric next ps (λ q i. h q (inr i))).letters
+abbrev pub AreNumeric : List Word → Type 0
+AreNumeric [] = Unit {0}
+AreNumeric (word ∷ words) = IsNumeric word × AreNumeric words
+
+pub numbers_numeric : (ps : List ℕ) → ((q : ℕ) → IsIn q ps → q < 2 ^ 64) → AreNumeric (map decimal ps)
+numbers_numeric [] h = tt
+numbers_numeric (p ∷ ps) h = (decimal_numeric p (h p (inl refl)), numbers_numeric ps (λ q i. h q (inr i)))
+
+-- such words with commas between them
+pub joined_numeric : (word : Word) (words : List Word) → AreNumeric (word ∷ words) → IsNumeric (join_with_byte 44 (word ∷ words))
+joined_numeric word [] h = h.0
+joined_numeric word (next ∷ words) h =
+    numeric_behind word (44 ∷ join_with_byte 44 (next ∷ words)) h.0 (joined_numeric next words h.1).letters

@@ -1,5 +1,5 @@
 -- The words of texts that are written.
-use Rattle.std.proofs.Common.{◌≡◌, ℕ, ◌<◌, ◌≤◌, ◌==◌, Bool, true, false, List, [], ◌∷◌, ◌++◌, length, refl, arith, append-nil, subst}
+use Rattle.std.proofs.Common.{◌≡◌, ℕ, ◌<◌, ◌≤◌, ◌==◌, Bool, true, false, List, [], ◌∷◌, ◌++◌, length, map, refl, arith, append-nil, subst}
 use Rattle.std.specs.Prelude.{codes, decimal, Option, Some, None}
 use Rattle.std.proofs.lemmas.Bool.Decides.{nat_tests}
 use Rattle.ct_names.specs.Group.{everyone}
@@ -25,6 +25,7 @@ use Rattle.ct_print.specs.Members.{set_text, list_text, who_text}
 use Rattle.ct_print.specs.Writable.{IsSet, IsSomeSet, WhoFits, CommandFits, CarriedFits, PickFits, ActFits, IsQuotable}
 use Rattle.ct_print.proofs.NoAnd.{Says, said, says_beside, led, numeric_says, member_says, spoken}
 use Rattle.ct_print.proofs.Numeric.{IsNumeric, numeric_reads, numeric_behind, decimal_numeric, two_numeric, joined_numeric}
+use Rattle.ct_print.proofs.Numeric.{numbers_numeric}
 use Rattle.ct_print.proofs.Parts.{AreSmall}
 use Rattle.ct_print.proofs.TextWords.{Reads, is_word, word_reads, joined_reads, words_are_words}
 
@@ -43,7 +44,7 @@ small_members set h q i =
 pub set_numeric : (set : List ℕ) → 0 < length set → AreSmall set → IsNumeric (set_text set)
 unfolding set_text
 set_numeric [] some h = absurd (omega (arith, some))
-set_numeric (p ∷ ps) some h = joined_numeric p ps (λ q i. omega (arith, (h q i).1))
+set_numeric (p ∷ ps) some h = joined_numeric (decimal p) (map decimal ps) (numbers_numeric (p ∷ ps) (λ q i. omega (arith, (h q i).1)))
 
 pub set_says : (set : List ℕ) → IsSomeSet set → Says (set_text set) (set_text set ∷ [])
 set_says set h = numeric_says (set_text set) (set_numeric set h.some (small_members set h))

@@ -2,7 +2,7 @@
 use Rattle.std.proofs.Common.{◌≡◌, ℕ, ◌<◌, ◌==◌, Bool, true, false, not, cond, ◌&&◌, List, [], ◌∷◌, ◌++◌, length, refl, sym, ap, ◌∙◌, arith}
 use Rattle.std.proofs.Common.{true≢false}
 use Rattle.std.specs.Prelude.{filter}
-use Rattle.std.specs.List.{slice_split, onto_first, list_all, take_while}
+use Rattle.std.specs.List.{slice_split, onto_first, list_all, take_while, join_with_byte}
 use Rattle.std.proofs.lemmas.Bool.Decides.{nat_tests}
 use Rattle.std.proofs.lemmas.List.Elements.{filter-append}
 use Rattle.std.proofs.lemmas.List.Folds.{list_all-append}
@@ -44,6 +44,24 @@ split_apart p y e (x ∷ xs) ys =
     ap (λ (s : List Word). cond (p x) ([] ∷ s) (onto_first x s)) (split_apart p y e xs ys)
     ∙ one_part_more (p x) x (slice_split p xs) (slice_split p ys) (omega (arith, length-slice_split p xs))
 
+-- a list of which nothing passes is one part
+pub one_part : {X : Type 0} (p : X → Bool) (xs : List X) → list_all (λ x. not (p x)) xs ≡ true → slice_split p xs ≡ xs ∷ []
+one_part p [] h = refl
+one_part p (x ∷ xs) h =
+    slice_split-cons_no p x xs (not-true (p x) (both-left (not (p x)) (list_all (λ y. not (p y)) xs) h))
+    ∙ ap (onto_first x) (one_part p xs (both-right (not (p x)) (list_all (λ y. not (p y)) xs) h))
+
+-- words with a byte between each two that none of them has are the parts
+pub joined_parts : (p : ℕ → Bool) (y : ℕ) → p y ≡ true → (word : Word) (words : List Word) →
+    list_all (list_all (λ c. not (p c))) (word ∷ words) ≡ true → slice_split p (join_with_byte y (word ∷ words)) ≡ word ∷ words
+joined_parts p y e word [] h = one_part p word (both-left (list_all (λ c. not (p c)) word) true h)
+joined_parts p y e word (next ∷ words) h =
+    let rest : list_all (list_all (λ c. not (p c))) (next ∷ words) ≡ true =
+    both-right (list_all (λ c. not (p c)) word) (list_all (list_all (λ c. not (p c))) (next ∷ words)) h in
+    let first : list_all (λ c. not (p c)) word ≡ true =
+    both-left (list_all (λ c. not (p c)) word) (list_all (list_all (λ c. not (p c))) (next ∷ words)) h in
+    split_apart p y e word (join_with_byte y (next ∷ words)) ∙ rw (one_part p word first, joined_parts p y e next words rest) refl
+
 words_apart : (a b : List ℕ) → all_words (a ++ 32 ∷ b) ≡ all_words a ++ all_words b
 unfolding all_words
 words_apart a b =
@@ -58,12 +76,6 @@ beside a b ws vs h k = record {
 
 -- ---- one word
 
-no_blanks : (word : Word) → list_all is_letter word ≡ true → slice_split is_blank word ≡ word ∷ []
-no_blanks [] h = refl
-no_blanks (c ∷ cs) h =
-    slice_split-cons_no is_blank c cs (not-true (is_blank c) (both-left (is_letter c) (list_all is_letter cs) h))
-    ∙ ap (onto_first c) (no_blanks cs (both-right (is_letter c) (list_all is_letter cs) h))
-
 pub word_reads : (word : Word) → is_word word ≡ true → Reads word (word ∷ [])
 unfolding all_words
 word_reads [] h = absurd (true≢false (sym h))
@@ -72,7 +84,7 @@ word_reads (c ∷ cs) h =
     both-left (list_all is_letter (c ∷ cs)) (true && is_plain (c ∷ cs)) h in
     let plain : is_plain (c ∷ cs) ≡ true = both-right (list_all is_letter (c ∷ cs)) (true && is_plain (c ∷ cs)) h in
     record {
-      all = ap (filter (λ (part : Word). not (is_nothing part))) (no_blanks (c ∷ cs) letters);
+      all = ap (filter (λ (part : Word). not (is_nothing part))) (one_part is_blank (c ∷ cs) letters);
       plain = rw plain refl;
     }
 

@@ -4,4 +4,5 @@ pub mod Facts
 pub mod Goals
 pub mod Lines
 pub mod Members
+pub mod Reports
 pub mod Writable

@@ -1,11 +1,10 @@
 -- Which lines can be written: those that some text says.
-use Rattle.std.specs.Prelude.{◌≡◌, ◌≢◌, ◌≤◌, ◌<◌, ℕ, true, not, List, [], ◌∷◌, length, filter, None, Ok, IfSome, codes}
-use Rattle.std.specs.List.{list_all}
+use Rattle.std.specs.Prelude.{◌≡◌, ◌≢◌, ◌≤◌, ◌<◌, ℕ, List, [], ◌∷◌, length, filter, get_or, Ok, IfSome}
 use Rattle.ct_names.specs.Group.{everyone, IsMember}
 use Rattle.ct_names.specs.MemberSet.{has_member}
 use Rattle.ct_names.specs.declared.command.Command.{Command}
 use Rattle.ct_names.specs.declared.command.Command.TheVariants.{Set, Add, Copy}
-use Rattle.ct_names.specs.declared.limit.TheConstants.{MAX_BOUND, MAX_CELLS, MAX_MEMBERS}
+use Rattle.ct_names.specs.declared.limit.TheConstants.{MAX_BOUND, MAX_CELLS, MAX_MEMBERS, REGISTERS}
 use Rattle.ct_names.specs.declared.refusal.Refusal.TheVariants.{OutOfMemory, Board}
 use Rattle.ct_grammar.specs.declared.act.Act.{Act}
 use Rattle.ct_grammar.specs.declared.act.Act.TheVariants.{Submit, Receive, Begin, Enter, Choose, Adopt, Suspect, Conclude, Deliver}
@@ -19,10 +18,12 @@ use Rattle.ct_grammar.specs.declared.claim.Claim.TheVariants as claims
 use Rattle.ct_grammar.specs.declared.claim.Extent.{Extent}
 use Rattle.ct_grammar.specs.declared.claim.Extent.TheVariants.{Exactly, AtLeast}
 use Rattle.ct_grammar.specs.declared.claim.Name.{Name}
+use Rattle.ct_grammar.specs.declared.decision.Decision.{Decision}
+use Rattle.ct_grammar.specs.declared.estimate.Estimate.{Estimate}
 use Rattle.ct_grammar.specs.declared.fact.Fact.{Fact}
 use Rattle.ct_grammar.specs.declared.fact.Fact.TheVariants.{Up, Crashed, Idle, Instance, Round, Phase as InPhase}
 use Rattle.ct_grammar.specs.declared.fact.Fact.TheVariants.{Received, Decided, Delivered, Table, Refuses, May}
-use Rattle.ct_grammar.specs.declared.fact.Fact.TheVariants.{Waiting as ManyWait, Waits, Heard, Acked, Estimate}
+use Rattle.ct_grammar.specs.declared.fact.Fact.TheVariants.{Waiting as ManyWait, Waits, Heard, Acked, Estimate as Estimated}
 use Rattle.ct_grammar.specs.declared.given.Given.{Given}
 use Rattle.ct_grammar.specs.declared.given.Given.TheVariants.{Members, Cells, Batch}
 use Rattle.ct_grammar.specs.declared.line.Line.{Line}
@@ -40,12 +41,10 @@ use Rattle.ct_grammar.specs.declared.term.Whom.{Whom}
 use Rattle.ct_grammar.specs.declared.term.Whom.TheVariants as whom
 use Rattle.ct_grammar.specs.declared.who.Who.{Who}
 use Rattle.ct_grammar.specs.declared.who.Who.TheVariants.{One, Some as Several, All}
-use Rattle.ct_grammar.specs.Claims.{amount_claim}
-use Rattle.ct_grammar.specs.Goals.{is_and}
 use Rattle.ct_grammar.specs.Numbers.{max_u8, max_u32, max_u64}
 use Rattle.ct_grammar.specs.Sides.{whole, side_of}
 use Rattle.ct_grammar.specs.Stated.{statement}
-use Rattle.ct_grammar.specs.Words.{Word, words_of, text_of}
+use Rattle.ct_grammar.specs.Words.{words_of, text_of}
 
 -- ---- members
 
@@ -75,12 +74,6 @@ pub record IsCut (sides : List ℕ) : Type 0 where
 pub record IsQuotable (text : List ℕ) : Type 0 where
   pub words : text_of (words_of text) ≡ text
   pub some : 0 < length text
-
--- what the fact of this name quotes: no word of it is `and`, and it is no other claim
-pub record IsQuoted (name : Word) (text : List ℕ) : Type 0 where
-  pub quotable : IsQuotable text
-  pub no_and : list_all (λ word. not (is_and word)) (words_of text) ≡ true
-  pub plain : amount_claim name (words_of text) ≡ None
 
 -- what is stated behind the act
 pub record IsStatement (act : Act) (said : List ℕ) : Type 0 where
@@ -123,6 +116,28 @@ ActFits (Lose pick) = PickFits pick
 ActFits (Repeat pick) = PickFits pick
 ActFits (LoseFrom set) = IsSomeSet set
 
+-- ---- what reports say
+
+abbrev pub NameFits : Name → Type 0
+NameFits name = (name.origin ≤ max_u8) × (name.number ≤ max_u32)
+
+abbrev pub NamesFit : List Name → Type 0
+NamesFit [] = Unit {0}
+NamesFit (name ∷ names) = NameFits name × NamesFit names
+
+-- decisions of instances that rise from behind the last one
+abbrev pub DecisionsFit : ℕ → List Decision → Type 0
+DecisionsFit last [] = Unit {0}
+DecisionsFit last (d ∷ decisions) = (last < d.instance) × (d.instance ≤ max_u32) × NamesFit d.names × DecisionsFit d.instance decisions
+
+-- the values of the registers
+pub record TableFits (values : List ℕ) : Type 0 where
+  pub sixteen : length values ≡ REGISTERS
+  pub small : (register : ℕ) → get_or values register 0 ≤ max_u64
+
+abbrev pub EstimateFits : Estimate → Type 0
+EstimateFits e = NamesFit e.names × (e.ts ≤ max_u32)
+
 -- ---- facts
 
 -- no want of memory and no board's refusal, which no rule gives
@@ -137,17 +152,17 @@ FactFits Idle = Unit {0}
 FactFits (Instance i) = i ≤ max_u32
 FactFits (Round r) = r ≤ max_u32
 FactFits (InPhase phase) = Unit {0}
-FactFits (Received quoted) = IsQuoted (codes "received") quoted
-FactFits (Decided quoted) = IsQuoted (codes "decided") quoted
-FactFits (Delivered quoted) = IsQuoted (codes "delivered") quoted
-FactFits (Table quoted) = IsQuoted (codes "table") quoted
+FactFits (Received names) = NamesFit names
+FactFits (Decided decisions) = DecisionsFit 0 decisions
+FactFits (Delivered names) = NamesFit names
+FactFits (Table values) = TableFits values
 FactFits (Refuses act reason) = ActFits act × IsRules reason
 FactFits (May act) = ActFits act
 FactFits (ManyWait n) = n ≤ max_u32
 FactFits (Waits pick) = PickFits pick
 FactFits (Heard set) = IsSet set
 FactFits (Acked set) = IsSet set
-FactFits (Estimate quoted) = IsQuoted (codes "estimate") quoted
+FactFits (Estimated estimate) = IfSome estimate EstimateFits
 
 -- ---- goals
 
@@ -163,9 +178,6 @@ IsCounted amount.Delivered = Unit {0}
 abbrev pub AmountFits : Amount → Extent → Type 0
 AmountFits what (Exactly n) = IsCounted what × (n ≤ max_u32)
 AmountFits what (AtLeast n) = n ≤ max_u32
-
-abbrev pub NameFits : Name → Type 0
-NameFits name = (name.origin ≤ max_u8) × (name.number ≤ max_u32)
 
 abbrev pub ClaimFits : Claim → Type 0
 ClaimFits (claims.Fact fact) = FactFits fact

@@ -5,18 +5,21 @@ ghost use Rattle.ct_grammar.specs.Words.{text_of};
 ghost use Rattle.ct_print.specs.Acts.{act_text};
 ghost use Rattle.ct_print.specs.Facts.{fact_text, phase_word};
 ghost use Rattle.ct_print.specs.Members.{set_or_dash_text};
+ghost use Rattle.ct_print.specs.Reports.{names_text};
 ghost use Rattle.ct_grammar.specs.Reasons.{reason_text};
 
 use crate::acts::{push_act, push_picked};
 use crate::members::push_set;
-use ct_grammar::{Act, Fact, Reason, Text};
+use crate::reports::{push_decisions, push_estimate, push_names};
+use ct_grammar::{Act, Fact, Names, Reason};
 use ct_model::Phase;
 use ct_names::MemberSet;
+use ct_text::push_table;
 use std::alloc::AllocError;
 
-/// A fact.
+/// Puts the fact behind the text, as `round 3` or `delivered 1.1 2.1`. Where memory is refused, a beginning of it may stand there.
 #[tactic(auto, unfolding(crate::specs::Facts::fact_text))]
-pub(crate) fn push_fact(text: &mut String, fact: &Fact) -> Result<(), AllocError>
+pub fn push_fact(text: &mut String, fact: &Fact) -> Result<(), AllocError>
     ensures { OnOk result (string_bytes text.new ≡ string_bytes text.old ++ fact_text fact.now) }
 {
     match fact {
@@ -26,10 +29,16 @@ pub(crate) fn push_fact(text: &mut String, fact: &Fact) -> Result<(), AllocError
         Fact::Instance(instance) => write!(text, "instance {instance}"),
         Fact::Round(round) => write!(text, "round {round}"),
         Fact::Phase(phase) => push_phase(text, *phase),
-        Fact::Received(quoted) => push_quoted(text, "received ", quoted),
-        Fact::Decided(quoted) => push_quoted(text, "decided ", quoted),
-        Fact::Delivered(quoted) => push_quoted(text, "delivered ", quoted),
-        Fact::Table(quoted) => push_quoted(text, "table ", quoted),
+        Fact::Received(names) => push_messages(text, "received ", names),
+        Fact::Decided(decisions) => {
+            text.push_str("decided ")?;
+            push_decisions(text, decisions.as_slice())
+        }
+        Fact::Delivered(names) => push_messages(text, "delivered ", names),
+        Fact::Table(table) => {
+            text.push_str("table ")?;
+            push_table(text, table)
+        }
         Fact::Refuses(act, reason) => push_refused(text, act, *reason),
         Fact::May(act) => {
             text.push_str("may ")?;
@@ -39,16 +48,19 @@ pub(crate) fn push_fact(text: &mut String, fact: &Fact) -> Result<(), AllocError
         Fact::Waits(pick) => push_picked(text, "waits ", *pick),
         Fact::Heard(set) => push_members(text, "heard ", *set),
         Fact::Acked(set) => push_members(text, "acked ", *set),
-        Fact::Estimate(quoted) => push_quoted(text, "estimate ", quoted),
+        Fact::Estimate(estimate) => {
+            text.push_str("estimate ")?;
+            push_estimate(text, estimate)
+        }
     }
 }
 
-// The word and the text that is quoted.
-fn push_quoted(text: &mut String, word: &str, quoted: &Text) -> Result<(), AllocError>
-    ensures { OnOk result (string_bytes text.new ≡ string_bytes text.old ++ word.now ++ quoted.now) }
+// The word and the names.
+fn push_messages(text: &mut String, word: &str, names: &Names) -> Result<(), AllocError>
+    ensures { OnOk result (string_bytes text.new ≡ string_bytes text.old ++ word.now ++ names_text 32 names.now) }
 {
     text.push_str(word)?;
-    text.push_str(quoted.as_str())
+    push_names(text, ' ', names.as_slice())
 }
 
 // The word and the members of the set; a dash where there are none.

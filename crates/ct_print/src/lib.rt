@@ -1,5 +1,5 @@
 //! The lines of a schedule, and goals, as text. Each line and each goal that a text says has one text here: its words with a space
-//! between each two, numbers without zeros in front, sets rising, and what it quotes as it is. What is written of a line or of a goal
+//! between each two, numbers without zeros in front, sets and registers rising, and what is stated behind an act as it is. What is written of a line or of a goal
 //! is read as that line or goal ([`law_read_back`]), and each of them that is read can be written ([`law_writable`]).
 #![tactic(auto)]
 
@@ -10,8 +10,10 @@ mod goals;
 mod law;
 mod lines;
 mod members;
+mod reports;
 
 pub use acts::push_command;
+pub use facts::push_fact;
 pub use goals::{push_claim, push_goal, push_term};
 pub use law::{law_read_back, law_writable};
 pub use lines::push_line;

@@ -7,7 +7,7 @@ use Rattle.ct_model.specs.Cause.{cause}
 use Rattle.ct_model.specs.declared.step.Step.{Step}
 use Rattle.ct_choices.specs.Choices.{after_try}
 use Rattle.ct_play.specs.Acting.{stepped, unless_refused}
-use Rattle.ct_play.specs.Faults.{is_short, IsFaultOf, IsKept, UnlessShort}
+use Rattle.ct_play.specs.Faults.{is_short, IsFaultOf, UnlessShort}
 use Rattle.ct_play.specs.Goals.{Watched}
 use Rattle.ct_play.specs.declared.line_fault.LineFault.{LineFault}
 use Rattle.ct_play.specs.Played.{Played}
@@ -35,8 +35,7 @@ after_refused s step fault refused = refused_by s step fault (cause s.rehearsal 
 
 -- the same where nothing was short
 pub after_kept : (old new : Watched) (step : Step) (fault : LineFault) → is_short fault ≡ false →
-    IsFaultOf (stepped old.played step) fault → IsKept old new fault → new.played.rehearsal ≡ after_try old.played.rehearsal (Some step)
-after_kept old new step fault told refused kept =
-    let same : new ≡ old = subst (λ b. UnlessShort b (new ≡ old)) told kept in
+    IsFaultOf (stepped old.played step) fault → new ≡ old → new.played.rehearsal ≡ after_try old.played.rehearsal (Some step)
+after_kept old new step fault told refused same =
     let is : stepped old.played step ≡ Err fault = subst (λ b. UnlessShort b (stepped old.played step ≡ Err fault)) told refused in
     ap (λ (w : Watched). w.played.rehearsal) same ∙ after_refused old.played step fault is

@@ -1,8 +1,8 @@
 -- What is expected of acts and of envelopes that wait.
 use Rattle.std.proofs.Common.{◌≡◌, ◌≤◌, ℕ, zero, suc, Bool, true, false, List, ◌&&◌, length, refl, ap}
-use Rattle.std.proofs.Common.{sym, ◌∙◌, subst, arith, codes, Option, Some, None, Ok, Err, Result, is_some, eqb-true, ◌==◌}
+use Rattle.std.proofs.Common.{sym, ◌∙◌, subst, arith, Option, Some, None, Ok, Err, Result, is_some, eqb-true, ◌==◌}
 use Rattle.std.proofs.lemmas.Bool.Decides.{nat_tests}
-use Rattle.std.specs.Prelude.{if◌then◌else◌}
+use Rattle.std.specs.Prelude.{if◌then◌else◌, is_none}
 use Rattle.std.specs.Option.{option_or}
 use Rattle.ct_names.specs.Membership.{IsIn}
 use Rattle.ct_names.specs.declared.refusal.Refusal.{Refusal}
@@ -11,7 +11,6 @@ use Rattle.ct_model.specs.Cause.{cause}
 use Rattle.ct_model.specs.Rehearsal.{Rehearsal, line_of, state_of}
 use Rattle.ct_model.specs.declared.step.Step.{Step}
 use Rattle.ct_model.specs.declared.step.Step.TheVariants as step
-use Rattle.ct_grammar.specs.Reasons.{reason_text}
 use Rattle.ct_grammar.specs.declared.act.Act.{Act}
 use Rattle.ct_grammar.specs.declared.act.Act.TheVariants.{Receive}
 use Rattle.ct_grammar.specs.declared.act.Act.TheVariants.{Postpone, Lose, Repeat, LoseFrom}
@@ -22,14 +21,14 @@ use Rattle.ct_grammar.specs.declared.reason.Reason.TheVariants.{NotThere, Across
 use Rattle.ct_grammar.specs.declared.carried.Carried.{Carried}
 use Rattle.ct_play.specs.Acting.{first_loss, go_on, step_of, there}
 use Rattle.ct_play.specs.Cuts.{barred}
-use Rattle.ct_play.specs.Facts.{act_cause, cause_text, step_cause}
+use Rattle.ct_play.specs.Facts.{act_reason, is_reason, reason_by, step_reason}
 use Rattle.ct_play.specs.Picking.{first_from, first_so, is_gone, is_of, is_so, is_waiting, last_of, last_so, picked, repeated, sender_of}
 use Rattle.ct_play.specs.Picking.{waiting_at, waits_at, was_sent}
 use Rattle.ct_play.specs.Played.{Played}
 use Rattle.ct_play.specs.declared.line_fault.LineFault.{LineFault}
 use Rattle.ct_play.specs.declared.line_fault.LineFault.TheVariants as fault
 use Rattle.ct_laws.specs.Expectations.{ComesTo, HasNever, HasNone, HasNoneFrom, HasWaiting, IsAcross, IsNotThere, IsOpen, IsRefusedFor}
-use Rattle.ct_laws.proofs.Expecting.Names.{not_allowed, same_reason}
+use Rattle.ct_laws.proofs.Expecting.Values.{reason_same, same_reason}
 use Rattle.ct_laws.proofs.Finding.{none_found, none_passes}
 
 -- ---- the last that passes
@@ -192,50 +191,54 @@ open_passes s step h = grind arith
 module _ (s : Played) (p : ℕ) (act : Act) (line : waiting_at s.rehearsal p ≡ line_of s.rehearsal p) where
   -- the step is refused for this reason
   step_for : (step : Step) (o : Option LineFault) (c : Option Refusal) (reason : Reason) → step_of s.rehearsal p act ≡ Ok step →
-      barred s step ≡ o → cause s.rehearsal step ≡ c → cause_text o c ≡ reason_text reason → IsRefusedFor s p act reason
+      barred s step ≡ o → cause s.rehearsal step ≡ c → is_reason (reason_by o c) reason ≡ true → IsRefusedFor s p act reason
   step_for step o (Some refusal) reason is bars causes h =
       subst (IsRefusedFor s p act) (same_reason (Rules refusal) reason h) (step, is, causes)
-  step_for step None None reason is bars causes h = not_allowed reason (sym h)
+  step_for step None None reason is bars causes h = absurd (cc h)
   step_for step (Some f) None reason is bars causes h =
       subst (IsRefusedFor s p act) (same_reason Across reason h) (step, is, (causes, is_across s step f bars))
 
-  refused_by : (r : Result Step LineFault) (reason : Reason) → step_of s.rehearsal p act ≡ r → act_cause s r ≡ reason_text reason →
+  refused_by : (r : Result Step LineFault) (reason : Reason) → step_of s.rehearsal p act ≡ r → is_reason (act_reason s r) reason ≡ true →
       IsRefusedFor s p act reason
-  unfolding step_cause
+  unfolding step_reason
   refused_by (Err e) reason is h =
       subst (IsRefusedFor s p act) (same_reason NotThere reason h) (not_there s.rehearsal p line act e is)
   refused_by (Ok step) reason is h = step_for step (barred s step) (cause s.rehearsal step) reason is refl refl h
 
-  pub refused_for : (reason : Reason) → act_cause s (step_of s.rehearsal p act) ≡ reason_text reason → IsRefusedFor s p act reason
+  pub refused_for : (reason : Reason) → is_reason (act_reason s (step_of s.rehearsal p act)) reason ≡ true → IsRefusedFor s p act reason
   refused_for reason h = refused_by (step_of s.rehearsal p act) reason refl h
 
-  pub for_refused : (reason : Reason) → IsRefusedFor s p act reason → act_cause s (step_of s.rehearsal p act) ≡ reason_text reason
-  unfolding step_cause
-  for_refused NotThere h = ap (act_cause s) (stuck s.rehearsal p line act h).1
-  for_refused Across h =
-      ap (act_cause s) h.1 ∙ ap (cause_text (barred s h.0)) h.2.0
-      ∙ ap (λ o. cause_text o None) (across_bars s h.0 h.2.1).1
-  for_refused (Rules refusal) h = ap (act_cause s) h.1 ∙ ap (cause_text (barred s h.0)) h.2
+  -- what is refused for the reason has it
+  reason_is : (reason : Reason) → IsRefusedFor s p act reason → act_reason s (step_of s.rehearsal p act) ≡ Some reason
+  unfolding step_reason
+  reason_is NotThere h = ap (act_reason s) (stuck s.rehearsal p line act h).1
+  reason_is Across h =
+      ap (act_reason s) h.1 ∙ ap (reason_by (barred s h.0)) h.2.0
+      ∙ ap (λ o. reason_by o None) (across_bars s h.0 h.2.1).1
+  reason_is (Rules refusal) h = ap (act_reason s) h.1 ∙ ap (reason_by (barred s h.0)) h.2
+
+  pub for_refused : (reason : Reason) → IsRefusedFor s p act reason → is_reason (act_reason s (step_of s.rehearsal p act)) reason ≡ true
+  for_refused reason h = ap (λ o. is_reason o reason) (reason_is reason h) ∙ reason_same reason
 
   step_free : (step : Step) (o : Option LineFault) (c : Option Refusal) → step_of s.rehearsal p act ≡ Ok step →
-      barred s step ≡ o → cause s.rehearsal step ≡ c → cause_text o c ≡ codes "allowed" →
+      barred s step ≡ o → cause s.rehearsal step ≡ c → is_none (reason_by o c) ≡ true →
       ComesTo s.rehearsal p act (λ step. (cause s.rehearsal step ≡ None) × IsOpen s step)
-  step_free step o (Some refusal) is bars causes h = not_allowed (Rules refusal) h
+  step_free step o (Some refusal) is bars causes h = absurd (cc h)
   step_free step None None is bars causes h = (step, is, (causes, is_open s step bars))
-  step_free step (Some f) None is bars causes h = not_allowed Across h
+  step_free step (Some f) None is bars causes h = absurd (cc h)
 
-  free_by : (r : Result Step LineFault) → step_of s.rehearsal p act ≡ r → act_cause s r ≡ codes "allowed" →
+  free_by : (r : Result Step LineFault) → step_of s.rehearsal p act ≡ r → is_none (act_reason s r) ≡ true →
       ComesTo s.rehearsal p act (λ step. (cause s.rehearsal step ≡ None) × IsOpen s step)
-  unfolding step_cause
-  free_by (Err e) is h = not_allowed NotThere h
+  unfolding step_reason
+  free_by (Err e) is h = absurd (cc h)
   free_by (Ok step) is h = step_free step (barred s step) (cause s.rehearsal step) is refl refl h
 
-  pub may_so : act_cause s (step_of s.rehearsal p act) ≡ codes "allowed" →
+  pub may_so : is_none (act_reason s (step_of s.rehearsal p act)) ≡ true →
       ComesTo s.rehearsal p act (λ step. (cause s.rehearsal step ≡ None) × IsOpen s step)
   may_so h = free_by (step_of s.rehearsal p act) refl h
 
   pub so_may : ComesTo s.rehearsal p act (λ step. (cause s.rehearsal step ≡ None) × IsOpen s step) →
-      act_cause s (step_of s.rehearsal p act) ≡ codes "allowed"
-  unfolding step_cause
+      is_none (act_reason s (step_of s.rehearsal p act)) ≡ true
+  unfolding step_reason
   so_may h =
-      ap (act_cause s) h.1 ∙ ap (cause_text (barred s h.0)) h.2.0 ∙ ap (λ o. cause_text o None) (open_passes s h.0 h.2.1)
+      ap is_none (ap (act_reason s) h.1 ∙ ap (reason_by (barred s h.0)) h.2.0 ∙ ap (λ o. reason_by o None) (open_passes s h.0 h.2.1))

@@ -4,12 +4,10 @@ use Rattle.std.proofs.Common.{length, take, refl, ap, sym, ◌∙◌, subst, ari
 use Rattle.std.proofs.Common.{option_and_then}
 use Rattle.std.proofs.Math.Nat.{eq-or-lt_of_le}
 use Rattle.std.proofs.lemmas.Bool.Decides.{nat_tests}
-use Rattle.std.proofs.lemmas.Slice.Eq.{bytes_eq-Decides}
 use Rattle.std.specs.List.{list_all}
 use Rattle.std.specs.Prelude.{if◌then◌else◌, filter_map}
 use Rattle.ct_names.specs.Group.{IsMember, everyone, is_member, members}
 use Rattle.ct_names.specs.Membership.{IsIn}
-use Rattle.ct_names.specs.RefusalText.{refusal_text}
 use Rattle.ct_names.specs.Value.{Value}
 use Rattle.ct_names.specs.declared.refusal.Refusal.{Refusal}
 use Rattle.ct_names.proofs.Groups.{in-counting}
@@ -31,7 +29,6 @@ use Rattle.ct_model.proofs.Record.Start.{lawful-first}
 use Rattle.ct_choices.specs.Choices.{has_crashed}
 use Rattle.ct_world.specs.Standing.{heard_by}
 use Rattle.ct_world.specs.World.{if_member, member_of}
-use Rattle.ct_grammar.specs.Reasons.{reason_text}
 use Rattle.ct_grammar.specs.declared.claim.Claim.{Claim}
 use Rattle.ct_grammar.specs.declared.claim.Claim.TheVariants as claim
 use Rattle.ct_grammar.specs.declared.claim.Extent.{Extent}
@@ -43,6 +40,7 @@ use Rattle.ct_grammar.specs.declared.term.When.{When}
 use Rattle.ct_grammar.specs.declared.term.When.TheVariants.{Now, Ever, Never}
 use Rattle.ct_grammar.specs.declared.term.Whom.{Whom}
 use Rattle.ct_grammar.specs.declared.term.Whom.TheVariants as whom
+use Rattle.ct_play.specs.Facts.{is_reason}
 use Rattle.ct_play.specs.Claims.{is_enough, is_refused_so, is_true_of, last_step, refuses_choice, refuses_heard, says}
 use Rattle.ct_play.specs.Goals.{holds_at, holds_for, is_met, meant, shows, unshown, was_seen}
 use Rattle.ct_play.specs.Played.{Played, first_part}
@@ -56,7 +54,7 @@ use Rattle.ct_laws.proofs.Expecting.Steps.{before_so, chooses_so, concludes_so, 
 use Rattle.ct_laws.proofs.Expecting.Steps.{none_of, so_suspects, suspects_so}
 use Rattle.ct_laws.proofs.Finding.{none_found, none_passes}
 use Rattle.ct_laws.proofs.MemberFacts.{got_heard, heard_got as heard_is_got, is_there, of_group}
-use Rattle.ct_laws.proofs.Expecting.Names.{same_reason}
+use Rattle.ct_laws.proofs.Expecting.Values.{reason_same, same_reason}
 use Rattle.ct_laws.proofs.Values.Bounded.{in_group as in_members}
 
 -- ---- beginnings of a record
@@ -96,9 +94,7 @@ got_by (Some v) h = (v, refl)
 refused_by : (w : Rehearsal) (p q : ℕ) (reason : Reason) (o : Option Refusal) → cause w (Choose p q) ≡ o → is_refused_so reason o ≡ true →
     (refusal : Refusal) × (reason ≡ Rules refusal) × (cause w (Choose p q) ≡ Some refusal)
 refused_by w p q reason None is h = absurd (cc h)
-refused_by w p q reason (Some refusal) is h =
-    let text = (bytes_eq-Decides (refusal_text refusal) (reason_text reason)).0 h in
-    (refusal, same_reason reason (Rules refusal) (sym text), is)
+refused_by w p q reason (Some refusal) is h = (refusal, sym (same_reason (Rules refusal) reason h), is)
 
 abbrev held : HeardOf Value → Value × ℕ
 held e = (e.value, e.ts)
@@ -181,13 +177,12 @@ module _ (s : Played) (p : ℕ) (member : IsMember s.rehearsal.setting.members p
       let hears = is_some (if_member w p (heard_by (member_of w p) q)) in
       let refuses = is_refused_so reason (cause w (Choose p q)) in
       let refused : refuses ≡ true =
-      ap (is_refused_so reason) h.cause
-      ∙ (bytes_eq-Decides (refusal_text h.refusal) (reason_text reason)).1 (sym (ap reason_text h.by)) in
+      ap (is_refused_so reason) h.cause ∙ ap (is_reason (Some (Rules h.refusal))) h.by ∙ reason_same (Rules h.refusal) in
       list_any-found (refuses_heard w p reason) q (members w.setting.members) (members_in w.setting.members q h.member)
       (both hears refuses (heard_if q ∙ got_ballot w p q h.one h.heard) refused)
 
   says_so : (c : Claim) → IsLawful s.rehearsal → says s p c ≡ true → Claims s p c
-  says_so (claim.Fact fact) law h = (holds_so s p fact law h).1
+  says_so (claim.Fact fact) law h = (holds_so s p fact h).1
   says_so (claim.Amount what extent) law h = enough_so extent _ h
   says_so (claim.Got k) law h = got_by (decided (member_of s.rehearsal p).got k) h
   says_so (claim.RefusesChoice reason) law h = choice_so reason h

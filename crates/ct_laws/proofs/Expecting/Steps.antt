@@ -24,7 +24,8 @@ use Rattle.ct_grammar.specs.declared.carried.Carried.TheVariants.{Dec, Prop}
 use Rattle.ct_grammar.specs.declared.claim.Name.{Name}
 use Rattle.ct_play.specs.Claims.{any_to, chooses_unseen, concludes_again, decides_again, follows, gets, has_got, is_again, is_earlier}
 use Rattle.ct_play.specs.Claims.{is_led}
-use Rattle.ct_play.specs.Claims.{is_named, is_unseen, last_step, stands_before, suspects_up, was_other}
+use Rattle.ct_play.specs.Facts.{is_named}
+use Rattle.ct_play.specs.Claims.{is_unseen, last_step, stands_before, suspects_up, was_other}
 use Rattle.ct_play.specs.Facts.{place_of}
 use Rattle.ct_play.specs.Picking.{is_carried, is_so}
 use Rattle.ct_laws.specs.Facts.{Stands}

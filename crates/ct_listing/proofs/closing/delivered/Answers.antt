@@ -1,9 +1,10 @@
-use Rattle.std.proofs.Common.{string_bytes}
-use Rattle.ct_listing.proofs.Present.{delivered_pushed}
+use Rattle.std.proofs.Common.{ap, map, ◌∙◌}
+use Rattle.ct_listing.specs.Expecting.{the_name}
+use Rattle.ct_listing.proofs.Reported.{delivered_there, of_the_group}
 use Rattle.ct_listing.proofs.closing.delivered.Goals as goal
 
 pub returns : goal.returns
 returns c =
-    rw c.new-3.ensures (delivered_pushed c.args.stage.now c.args.member (string_bytes c.new-text.result) (string_bytes
-    c.push_there.new.text)
-    c.new-2.result c.new-text.ensures.bytes c.in_ok-push_there.ensures)
+    let told = of_the_group c.args.stage.now.rehearsal c.args.member _ _ c.requires (rw c.world.ensures at c.in-Some.ensures) in
+    delivered_there c.args.stage.now c.args.member c.in_ok-names_of-in-Some.field-0
+    (c.in_ok-names_of-in-Some.ensures.names ∙ ap (map the_name) told) c.in_ok-names_of-in-Some.ensures.fit

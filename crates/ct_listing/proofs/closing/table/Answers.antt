@@ -1,8 +1,8 @@
-use Rattle.std.proofs.Common.{string_bytes}
-use Rattle.ct_listing.proofs.Present.{table_pushed}
+use Rattle.std.proofs.Common.{◌∙◌}
+use Rattle.ct_listing.proofs.Reported.{of_the_group, table_there}
 use Rattle.ct_listing.proofs.closing.table.Goals as goal
 
 pub returns : goal.returns
 returns c =
-    rw c.new-3.ensures (table_pushed c.args.stage.now c.args.member (string_bytes c.new-text.result) (string_bytes c.push_there.new.text)
-    c.new-2.result c.new-text.ensures.bytes c.in_ok-push_there.ensures)
+    let told = of_the_group c.args.stage.now.rehearsal c.args.member _ _ c.requires (rw c.world.ensures at c.in-Some.ensures) in
+    table_there c.args.stage.now c.args.member c.same_table.result (c.same_table.ensures.same ∙ told) c.same_table.ensures.small

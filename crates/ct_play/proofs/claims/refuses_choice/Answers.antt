@@ -10,12 +10,12 @@ pub loop-i-init : goal.loop-i-init
 unfolding members
 loop-i-init c = refl
 
-pub returns-then-branch : goal.returns-then-branch
+pub returns-then-refuses_heard : goal.returns-then-refuses_heard
 unfolding refuses_choice
-returns-then-branch c =
+returns-then-refuses_heard c =
     let test = refuses_heard c.args.world.now.rehearsal c.args.member c.args.reason in
     let found = member_found test c.loop-i.i c.n-i-end.result (omega (arith, c.loop-i-test.true)) c.loop-i.invariant
-    (sym c.in_ok-refuses_heard.ensures ∙ c.if-branch.true) in
+    (sym c.refuses_heard.ensures ∙ c.if-refuses_heard.true) in
     sym (ap (λ n. list_any test (members n)) (sym (c.n-i-end.ensures.value ∙ c.group.ensures))
     ∙ (list_any-find test (members c.n-i-end.result) ∙ ap is_some found))
 
@@ -23,7 +23,7 @@ pub loop-i-preserved : goal.loop-i-preserved
 loop-i-preserved c =
     member_passed (refuses_heard c.args.world.now.rehearsal c.args.member c.args.reason) c.loop-i.i
     c.loop-i.invariant
-    (sym c.in_ok-refuses_heard.ensures ∙ c.if-branch.false)
+    (sym c.refuses_heard.ensures ∙ c.if-refuses_heard.false)
 
 pub returns : goal.returns
 unfolding refuses_choice

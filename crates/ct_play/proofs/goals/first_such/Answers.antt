@@ -8,12 +8,12 @@ pub loop-i-init : goal.loop-i-init
 unfolding members
 loop-i-init c = refl
 
-pub returns-then-branch-clause-value : goal.returns-then-branch-clause-value
-returns-then-branch-clause-value c =
+pub returns-then-is_such : goal.returns-then-is_such
+returns-then-is_such c =
     sym (member_found (is_such c.args.stage.now c.args.whom.now c.args.claim.now c.args.wanted) c.loop-i.i c.args.count
-    (omega (arith, c.loop-i-test.true)) c.loop-i.invariant (sym c.in_ok-is_such.ensures.value ∙ c.if-branch.true))
+    (omega (arith, c.loop-i-test.true)) c.loop-i.invariant (sym c.is_such.ensures ∙ c.if-is_such.true))
 
 pub loop-i-preserved : goal.loop-i-preserved
 loop-i-preserved c =
     member_passed (is_such c.args.stage.now c.args.whom.now c.args.claim.now c.args.wanted) c.loop-i.i c.loop-i.invariant
-    (sym c.in_ok-is_such.ensures.value ∙ c.if-branch.false)
+    (sym c.is_such.ensures ∙ c.if-is_such.false)

@@ -11,6 +11,6 @@ loop-i-preserved c =
     let i = c.loop-i.i in
     let d = c.index-terms-i.result in
     ap (set c.loop-i.looks i)
-    (c.in_ok-looks.ensures.value ∙ ap (λ (t : Term). next_look s t (get_or c.loop-i.looks i false)) c.index-terms-i.is)
+    (c.next_look.ensures ∙ ap (λ (t : Term). next_look s t (get_or c.loop-i.looks i false)) c.index-terms-i.is)
     ∙ (ap (λ (l : List Bool). set l i (next_look s (get_or c.args.terms.now i d) (get_or l i false))) c.loop-i.invariant
     ∙ looked_more s i c.args.terms.now c.args.looks.now d false (omega (arith, c.loop-i-test.true)) c.requires)

@@ -1,5 +1,5 @@
-use Rattle.std.proofs.Common.{◌∙◌, ◌≡◌, ap, sym, not, true, false, Bool, refl, subst, ℕ, [], ◌∷◌}
-use Rattle.std.specs.Prelude.{IfOk, find}
+use Rattle.std.proofs.Common.{◌∙◌, ◌≡◌, ap, sym, not, true, false, Bool, refl, ℕ, [], ◌∷◌}
+use Rattle.std.specs.Prelude.{find}
 use Rattle.std.specs.Bool.{then_some}
 use Rattle.ct_grammar.specs.declared.term.Whom.{Whom}
 use Rattle.ct_model.specs.Rehearsal.{Rehearsal}
@@ -12,24 +12,22 @@ alone : (test : ℕ → Bool) (p : ℕ) (met : Bool) → test p ≡ met → then
 alone test p true e = rw e refl
 alone test p false e = rw e refl
 
-pub returns-in_ok-met-in-One-clause-value : goal.returns-in_ok-met-in-One-clause-value
+pub returns-in-One : goal.returns-in-One
 unfolding unshown
-returns-in_ok-met-in-One-clause-value c =
+returns-in-One c =
     c.then_some.ensures
-    ∙ (alone (λ p. not (is_true_of c.args.stage.now p c.args.claim.now)) c.in-One.member (not c.in_ok-met-in-One.met)
-    (ap not (sym c.in_ok-met-in-One.ensures.value))
+    ∙ (alone (λ p. not (is_true_of c.args.stage.now p c.args.claim.now)) c.in-One.member (not c.is_true_of.result)
+    (ap not (sym c.is_true_of.ensures))
     ∙ ap (λ (w : Whom). unshown c.args.stage.now w c.args.claim.now) (sym c.in-One.is))
 
-pub returns-in-Some-clause-value : goal.returns-in-Some-clause-value
-returns-in-Some-clause-value c =
-    subst (λ o. IfOk c.first_such.result (λ first. first ≡ o))
-    (unshown_of_set c.args.stage.now c.args.whom.now c.in-Some.set c.args.claim.now c.in-Some.is c.len.ensures.members)
-    c.first_such.ensures.value
+pub returns-in-Some : goal.returns-in-Some
+returns-in-Some c =
+    c.first_such.ensures
+    ∙ unshown_of_set c.args.stage.now c.args.whom.now c.in-Some.set c.args.claim.now c.in-Some.is c.len.ensures.members
 
-pub returns-in_default-clause-value : goal.returns-in_default-clause-value
-returns-in_default-clause-value c =
-    subst (λ o. IfOk c.first_such-in_default.result (λ first. first ≡ o))
-    (unshown_of_group c.args.stage.now c.args.whom.now c.args.claim.now c.n.result
+pub returns-in_default : goal.returns-in_default
+returns-in_default c =
+    c.first_such-in_default.ensures
+    ∙ unshown_of_group c.args.stage.now c.args.whom.now c.args.claim.now c.n.result
     (c.n.ensures.value ∙ (c.group.ensures ∙ ap (λ (w : Rehearsal). w.setting.members) c.world.ensures))
-    c.in_default.not-One c.in_default.not-Some)
-    c.first_such-in_default.ensures.value
+    c.in_default.not-One c.in_default.not-Some

@@ -11,7 +11,7 @@ pub loop-i-init : goal.loop-i-init
 loop-i-init c = record {
   part = c.in-Ok.ensures.ok;
   so_far =
-      c.in_ok-seen.ensures.value
+      c.holds_at-seen.ensures
       ∙ (ap (λ (u : Played). holds_at u c.args.term.now) c.in-Ok.ensures.ok ∙ sym (seen_first c.args.stage.now c.args.term.now));
 }
 
@@ -26,7 +26,7 @@ loop-i-preserved c =
     record {
       part = part;
       so_far =
-          c.in_ok-seen-2.ensures.value
+          c.still_seen-seen.ensures
           ∙ (ap (λ (b : Bool). b || holds_at c.step.new.self c.args.term.now) c.loop-i.invariant.so_far
           ∙ sym (seen_more s c.step.new.self c.args.term.now c.loop-i.i part));
     }

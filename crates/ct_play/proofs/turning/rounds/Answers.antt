@@ -30,3 +30,7 @@ loop-i-preserved c = record {
   later = later_on c.args.stage.now c.loop-i.stage c.moving_round.new.stage c.loop-i.invariant.later c.in_ok-moving_round.ensures.later;
   seen = c.in_ok-moving_round.ensures.seen;
 }
+
+pub returns-in_err-moving_round-clause-later : goal.returns-in_err-moving_round-clause-later
+returns-in_err-moving_round-clause-later c =
+    later_on c.args.stage.now c.loop-i.stage c.moving_round.new.stage c.loop-i.invariant.later c.in_err-moving_round.ensures.later
