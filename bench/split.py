@@ -15,7 +15,6 @@ sys.dont_write_bytecode = True
 from model import BOUND, LENGTH, Fault, Refused, names, read
 
 NETWORK = ("postpone", "lose", "repeat")
-SHOWN = 8   # of a value with more messages the first ones are stated
 
 
 def arguments():
@@ -26,8 +25,7 @@ def arguments():
 
 
 def value(messages):
-    more = len(messages) - SHOWN
-    return "{" + names(messages[:SHOWN], ",") + (f" and {more} more" if more > 0 else "") + "}"
+    return "{" + names(messages, ",") + "}"
 
 
 def carried(wire):

@@ -12,7 +12,7 @@
 #include <unistd.h>
 
 #define CT_LOG_LINE 1024 /* bytes of a line */
-#define CT_LOG_SHOWN 8   /* messages of a value; of more it is told how many */
+#define CT_LOG_SHOWN 8   /* messages of a value that are named; of more it is told how many, so that a line has room */
 
 struct ct_log { int file, member; };
 struct ct_message { int origin, number; };

@@ -5,13 +5,10 @@ import os
 from typing import Any, Iterable, Optional, Sequence, Tuple
 
 Message = Tuple[Any, ...]   # its origin, its number there, and whatever the program keeps behind them
-MOST_SHOWN = 8              # messages of a value; of more it is told how many
 
 
 def value_text(value: Iterable[Message]) -> str:
-    names = [f"{message[0]}.{message[1]}" for message in value]
-    more = len(names) - MOST_SHOWN
-    return "{" + ",".join(names[:MOST_SHOWN]) + (f" and {more} more" if more > 0 else "") + "}"
+    return "{" + ",".join(f"{message[0]}.{message[1]}" for message in value) + "}"
 
 
 class Log:

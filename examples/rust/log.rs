@@ -5,8 +5,6 @@ use std::fmt::Display;
 use std::fs::{File, OpenOptions};
 use std::io::{ErrorKind, Result, Write};
 
-const SHOWN: usize = 8; // messages of a value; of more it is told how many
-
 /// A message, by its origin and its number there. A value has them in order.
 pub type Message = (u8, u32);
 
@@ -60,9 +58,8 @@ impl Log {
 }
 
 fn text_of(value: &[Message]) -> String {
-    let names: Vec<String> = value.iter().take(SHOWN).map(|(origin, number)| format!("{origin}.{number}")).collect();
-    let more = if value.len() > SHOWN { format!(" and {} more", value.len() - SHOWN) } else { String::new() };
-    format!("{{{}{more}}}", names.join(","))
+    let names: Vec<String> = value.iter().map(|(origin, number)| format!("{origin}.{number}")).collect();
+    format!("{{{}}}", names.join(","))
 }
 
 fn with_ts(value: &[Message], ts: u32) -> String {

@@ -5,6 +5,5 @@ mod NearNames
 mod PartsRead
 mod SetsCut
 mod TermsRead
-mod TextJoined
 mod WordsCut
 pub mod Utf8

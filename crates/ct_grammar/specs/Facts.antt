@@ -1,5 +1,5 @@
 -- What lines expect, in words.
-use Rattle.std.specs.Prelude.{Bool, ◌||◌, length, List, [], ◌∷◌, Option, Some, None, Result, Ok, Err, codes, if◌then◌else◌, ℕ}
+use Rattle.std.specs.Prelude.{length, List, [], ◌∷◌, Option, Some, None, Result, Ok, Err, codes, if◌then◌else◌, ℕ}
 use Rattle.std.specs.Option.{ok_or}
 use Rattle.std.specs.Str.{bytes_eq}
 use Rattle.ct_model.specs.declared.phase.Phase.{Phase}
@@ -13,7 +13,6 @@ use Rattle.ct_grammar.specs.declared.pick.Pick.{Pick}
 use Rattle.ct_grammar.specs.declared.reason.Reason.{Reason}
 use Rattle.ct_grammar.specs.declared.unfit.Unfit.{Unfit}
 use Rattle.ct_grammar.specs.declared.unfit.Unfit.TheVariants.{End, Word as Other}
-use Rattle.ct_grammar.specs.declared.wanted.Wanted.{Wanted}
 use Rattle.ct_grammar.specs.declared.wanted.Wanted.TheVariants as wanted
 use Rattle.ct_grammar.specs.Words.{Word}
 use Rattle.ct_grammar.specs.Unfits.{◌>>=◌, map_ok}

@@ -1,11 +1,13 @@
 -- The names of messages, and what stands behind instances and registers.
-use Rattle.std.specs.Prelude.{ℕ, ◌+◌, ◌==◌, List, [], ◌∷◌, ◌++◌, Option, Some, None, option_map, codes, get_or, if◌then◌else◌}
-use Rattle.std.specs.List.{slice_split}
+use Rattle.std.specs.Prelude.{ℕ, ◌+◌, ◌==◌, ◌&&◌, List, [], ◌∷◌, ◌++◌, Option, Some, None, option_map, codes, get_or, nat_eq}
+use Rattle.std.specs.Prelude.{if◌then◌else◌}
+use Rattle.std.specs.List.{ends_with, slice_split}
 use Rattle.std.specs.Str.{bytes_eq}
 use Rattle.ct_names.specs.declared.command.Command.TheVariants.{Set}
 use Rattle.ct_table.specs.Table.{applied}
 use Rattle.ct_grammar.specs.declared.claim.Name.{Name}
-use Rattle.ct_grammar.specs.declared.decision.Decision.{Decision}
+use Rattle.ct_grammar.specs.declared.reports.decision.Decision.{Decision}
+use Rattle.ct_grammar.specs.declared.reports.listed.Listed.{Listed}
 use Rattle.ct_grammar.specs.Numbers.{◌>>=◌, max_u8, max_u32, max_u64, number_in, parted, two_numbers}
 use Rattle.ct_grammar.specs.Words.{Word}
 
@@ -51,6 +53,38 @@ unfoldable pub value_of : Word → Option (List Name)
 value_of word = do
   names ← within_braces word
   if bytes_eq names [] then Some [] else names_within names
+
+-- the word, and the words behind it as long as that ends with a comma; and the words behind them
+abbrev pub glued : Word → List Word → Word × List Word
+glued word [] = (word, [])
+glued word (next ∷ words) = if ends_with nat_eq word (codes ",") then glued (word ++ next) words else (word, next ∷ words)
+
+-- `and N more}`, and the words behind that
+unfoldable pub more_first : List Word → Option (ℕ × List Word)
+more_first (and ∷ count ∷ more ∷ words) =
+    if bytes_eq and (codes "and") && bytes_eq more (codes "more}") then option_map (λ n. (n, words)) (number_in 1 max_u32 count) else None
+more_first _ = None
+
+-- some messages of a value, and how many more there are, and the words behind that
+unfoldable pub shortened : Word → List Word → Option (Listed × List Word)
+shortened [] words = None
+shortened (c ∷ cs) words = if c == 123 then some_names (more_first words) cs else None
+  where
+    some_names : Option (ℕ × List Word) → Word → Option (Listed × List Word)
+    some_names None inside = None
+    some_names (Some r) inside = option_map (λ names. (record { names = names; more = r.0 }, r.1)) (names_within inside)
+
+-- all messages of a value, where these are there; otherwise some
+abbrev pub all_or_some : Option (List Name) → Word → List Word → Option (Listed × List Word)
+all_or_some (Some names) word words = Some (record { names = names; more = 0 }, words)
+all_or_some None word words = shortened word words
+
+unfoldable pub listed_in : Word → List Word → Option (Listed × List Word)
+listed_in word words = all_or_some (value_of word) word words
+
+-- the messages of a value, in braces, with blanks behind commas or without; and the words behind them
+unfoldable pub listed_first : Word → List Word → Option (Listed × List Word)
+listed_first word words = listed_in (glued word words).0 (glued word words).1
 
 -- the values of the registers, where also one that holds 0 has the number behind it, which is not 0
 unfoldable pub with_register : List ℕ → Word → Option (List ℕ)

@@ -1,11 +1,11 @@
 -- What reports say of members, in words.
-use Rattle.std.specs.Prelude.{ℕ, Bool, List, [], ◌∷◌, ◌++◌, length, Option, Some, None, Result, Ok, Err, codes, if◌then◌else◌}
+use Rattle.std.specs.Prelude.{ℕ, List, [], ◌∷◌, ◌++◌, length, Option, Some, None, Result, Ok, Err, codes, if◌then◌else◌}
 use Rattle.std.specs.Option.{ok_or}
 use Rattle.std.specs.Str.{bytes_eq}
 use Rattle.ct_table.specs.Table.{zeros}
 use Rattle.ct_grammar.specs.declared.claim.Name.{Name}
-use Rattle.ct_grammar.specs.declared.decision.Decision.{Decision}
-use Rattle.ct_grammar.specs.declared.estimate.Estimate.{Estimate}
+use Rattle.ct_grammar.specs.declared.reports.decision.Decision.{Decision}
+use Rattle.ct_grammar.specs.declared.reports.estimate.Estimate.{Estimate}
 use Rattle.ct_grammar.specs.declared.unfit.Unfit.{Unfit}
 use Rattle.ct_grammar.specs.declared.unfit.Unfit.TheVariants.{End, Word as Other}
 use Rattle.ct_grammar.specs.declared.wanted.Wanted.{Wanted}
@@ -13,7 +13,7 @@ use Rattle.ct_grammar.specs.declared.wanted.Wanted.TheVariants as wanted
 use Rattle.ct_grammar.specs.Words.{Word}
 use Rattle.ct_grammar.specs.Unfits.{◌>>=◌, map_ok}
 use Rattle.ct_grammar.specs.Leading.{behind_term, lone_whole, over}
-use Rattle.ct_grammar.specs.Names.{decision_of, name_of, value_of, with_register}
+use Rattle.ct_grammar.specs.Names.{decision_of, glued, name_of, value_of, with_register}
 
 -- a dash alone; None where another word stands there
 unfoldable pub lone_dash : Wanted → List Word → Option (Result (Unit {0}) Unfit)
@@ -69,8 +69,8 @@ ts_of (word ∷ words) =
 unfoldable pub adopted_of : List Word → Result Estimate Unfit
 adopted_of [] = Err (End wanted.Estimate)
 adopted_of (word ∷ words) = do
-  names ← ok_or (value_of word) (Other (length words) wanted.Estimate)
-  ts ← ts_of words
+  names ← ok_or (value_of (glued word words).0) (Other (length words) wanted.Estimate)
+  ts ← ts_of (glued word words).1
   Ok (record { names = names; ts = ts })
 
 -- an estimate, if there is one

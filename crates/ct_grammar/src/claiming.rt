@@ -12,8 +12,8 @@ use crate::expecting::named_fact;
 use crate::leading::{behind_term, lone_whole, over};
 use crate::naming::reason;
 use crate::numbers::{byte, whole};
-use crate::reading_names::name;
 use crate::reason::Reason;
+use crate::reports::name;
 use crate::unfit::Unfit;
 use crate::wanted::Wanted;
 use std::alloc::{AllocError, Global};
@@ -284,10 +284,7 @@ fn or_fact(
     if let Some(claim) = claim {
         return Ok(claim);
     }
-    match named_fact(alloc, name, words)? {
-        Ok(fact) => Ok(Ok(Claim::Fact(fact))),
-        Err(unfit) => Ok(Err(unfit)),
-    }
+    Ok(named_fact(alloc, name, words)?.map(Claim::Fact))
 }
 
 /// What is claimed of a member.

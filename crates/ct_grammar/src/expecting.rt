@@ -4,9 +4,6 @@ ghost use Rattle.std.specs.Prelude.{◌≡◌, IfOk, map};
 ghost use Rattle.ct_grammar.specs.Facts.{phase_of, short_fact, ended, lone_act, lone_pick, phase_first, reason_first};
 ghost use Rattle.ct_grammar.specs.Facts.{refusal_of, plain_fact};
 ghost use Rattle.ct_grammar.specs.Facts.{act_fact, number_fact, set_or_dash, lone_set, named_fact};
-ghost use Rattle.ct_grammar.specs.Reports.{decisions_of, messages_of};
-ghost use Rattle.ct_grammar.specs.Unfits.{map_ok};
-ghost use Rattle.ct_grammar.specs.declared.fact.Fact.TheVariants.{Received, Decided, Delivered};
 
 use crate::act::Act;
 use crate::acting::{act_first, behind_act};
@@ -17,7 +14,7 @@ use crate::numbers::members;
 use crate::pick::Pick;
 use crate::picking::{behind_pick, pick_first};
 use crate::reason::Reason;
-use crate::reporting::{decisions, estimate, messages, table};
+use crate::reports::{decisions, estimate, messages, table};
 use crate::unfit::Unfit;
 use crate::wanted::Wanted;
 use ct_model::Phase;
@@ -203,44 +200,11 @@ pub(crate) fn named_fact(
     ensures { IfOk result (λ fact. fact ≡ named_fact name.now (map (λ word. word.now) words.now)) }
 {
     match name {
-        "received" => received(alloc, words),
-        "decided" => decided(alloc, words),
-        "delivered" => delivered(alloc, words),
-        "table" => match table(words) {
-            Ok(table) => Ok(Ok(Fact::Table(table))),
-            Err(unfit) => Ok(Err(unfit)),
-        },
-        "estimate" => match estimate(alloc, words)? {
-            Ok(estimate) => Ok(Ok(Fact::Estimate(estimate))),
-            Err(unfit) => Ok(Err(unfit)),
-        },
+        "received" => Ok(messages(alloc, words)?.map(Fact::Received)),
+        "decided" => Ok(decisions(alloc, words)?.map(Fact::Decided)),
+        "delivered" => Ok(messages(alloc, words)?.map(Fact::Delivered)),
+        "table" => Ok(table(words).map(Fact::Table)),
+        "estimate" => Ok(estimate(alloc, words)?.map(Fact::Estimate)),
         _ => Ok(number_fact(name, words)),
-    }
-}
-
-fn received(alloc: Global, words: &[&str]) -> Result<Result<Fact, Unfit>, AllocError>
-    ensures { IfOk result (λ fact. fact ≡ map_ok Received (messages_of (map (λ word. word.now) words.now))) }
-{
-    match messages(alloc, words)? {
-        Ok(names) => Ok(Ok(Fact::Received(names))),
-        Err(unfit) => Ok(Err(unfit)),
-    }
-}
-
-fn delivered(alloc: Global, words: &[&str]) -> Result<Result<Fact, Unfit>, AllocError>
-    ensures { IfOk result (λ fact. fact ≡ map_ok Delivered (messages_of (map (λ word. word.now) words.now))) }
-{
-    match messages(alloc, words)? {
-        Ok(names) => Ok(Ok(Fact::Delivered(names))),
-        Err(unfit) => Ok(Err(unfit)),
-    }
-}
-
-fn decided(alloc: Global, words: &[&str]) -> Result<Result<Fact, Unfit>, AllocError>
-    ensures { IfOk result (λ fact. fact ≡ map_ok Decided (decisions_of (map (λ word. word.now) words.now))) }
-{
-    match decisions(alloc, words)? {
-        Ok(decisions) => Ok(Ok(Fact::Decided(decisions))),
-        Err(unfit) => Ok(Err(unfit)),
     }
 }

@@ -1,11 +1,9 @@
 //! What lines expect of members.
 
 use crate::act::Act;
-use crate::decisions::Decisions;
-use crate::estimate::Estimate;
-use crate::names::Names;
 use crate::pick::Pick;
 use crate::reason::Reason;
+use crate::reports::{Decisions, Estimate, Names};
 use ct_model::Phase;
 use ct_names::{Instance, MemberSet, Round};
 use ct_table::Table;

@@ -30,9 +30,10 @@
 //! REASON               the name of a refusal by the rules, as Idle or Full(Steps), NotThere or Across
 //! ```
 //!
-//! What an act does is stated behind it by a command, alone, where it receives `data O.N`, and by words of which the first begins
-//! with `{`, where it receives `est`, `prop` or `dec`, and where it is begin, enter, choose, adopt, conclude, deliver or follow; by
-//! either where it receives `#SERIAL`. Of other acts, and of what carries `ack` or `nack`, nothing is stated.
+//! What an act does is stated behind it by a command, alone, where it receives `data O.N`, and by a value, `{O.N,O.N}` or
+//! `{O.N,O.N and N more}`, with `ts R` behind it or without, where it receives `est`, `prop` or `dec`, and where it is begin, enter,
+//! choose, adopt, conclude, deliver or follow; by either where it receives `#SERIAL`. Of other acts, and of what carries `ack` or
+//! `nack`, nothing is stated. Behind a comma within braces may stand blanks.
 //!
 //! A member or a register that no group or table has is understood, as member 0; the step is refused.
 //!
@@ -61,20 +62,15 @@ mod carried;
 mod claim;
 mod claiming;
 mod cutting;
-mod decision;
-mod decisions;
-mod estimate;
 mod expecting;
 mod fact;
 mod feeds;
 mod given;
 mod goal;
 mod goals;
-mod joining;
 mod leading;
 mod line;
 mod misfit;
-mod names;
 mod naming;
 mod naming_members;
 mod near;
@@ -85,10 +81,10 @@ mod places;
 mod play;
 mod question;
 mod reading;
-mod reading_names;
 mod reason;
-mod reporting;
+mod reports;
 mod sides;
+mod statement;
 mod stating;
 mod term;
 mod text;
@@ -101,9 +97,6 @@ mod words;
 pub use act::Act;
 pub use carried::Carried;
 pub use claim::{Amount, Claim, Extent, Name};
-pub use decision::Decision;
-pub use decisions::Decisions;
-pub use estimate::Estimate;
 pub use fact::Fact;
 pub use feeds::{behind, first_feed, text_in};
 pub use given::Given;
@@ -111,14 +104,15 @@ pub use goal::Goal;
 pub use goals::goal_of;
 pub use line::Line;
 pub use misfit::{LONGEST_WORD, Misfit, push_act_hint};
-pub use names::Names;
 pub use numbers::members;
 pub use pick::Pick;
 pub use play::Play;
 pub use question::Question;
 pub use reading::line_of;
 pub use reason::Reason;
+pub use reports::{Decision, Decisions, Estimate, Listed, Names};
 pub use sides::Sides;
+pub use statement::Statement;
 pub use term::{Term, When, Whom};
 pub use text::Text;
 pub use who::Who;

@@ -4,7 +4,7 @@ use crate::act::Act;
 use crate::goal::Goal;
 use crate::question::Question;
 use crate::sides::Sides;
-use crate::text::Text;
+use crate::statement::Statement;
 use crate::who::Who;
 use ct_names::MemberSet;
 
@@ -13,8 +13,8 @@ use ct_names::MemberSet;
 pub enum Play {
     /// `2 receive data 1.1`: these members take a step each.
     Act(Who, Act),
-    /// `2 receive est 1/1 from 1 {1.1} ts 0`: the same, and what each step does has to read so.
-    Stated(Who, Act, Text),
+    /// `2 receive est 1/1 from 1 {1.1} ts 0`: the same, and what each step does has to be this.
+    Stated(Who, Act, Statement),
     /// `1,3 turns 20 suspecting 2,3`: so many rounds in which each of these makes a turn, as a driver does whose failure
     /// detector suspects these.
     Turns(Who, u32, MemberSet),

@@ -45,10 +45,7 @@ fn of_words(alloc: Global, words: &[&str]) -> Result<Result<Line, Misfit>, Alloc
     let Some(who) = who(name) else {
         return worded(alloc, words);
     };
-    match done_by(alloc, who, rest)? {
-        Ok(play) => Ok(Ok(Line::Play(play))),
-        Err(misfit) => Ok(Err(misfit)),
-    }
+    Ok(done_by(alloc, who, rest)?.map(Line::Play))
 }
 
 // What stands behind the members: `turns`, `settle` or an act.
@@ -91,10 +88,7 @@ fn worded(alloc: Global, words: &[&str]) -> Result<Result<Line, Misfit>, AllocEr
     if *name != "expect" {
         return told(alloc, words, named(name, rest));
     }
-    match goal(alloc, rest)? {
-        Ok(goal) => Ok(Ok(Line::Play(Play::Expect(goal)))),
-        Err(misfit) => Ok(Err(misfit)),
-    }
+    Ok(goal(alloc, rest)?.map(Play::Expect).map(Line::Play))
 }
 
 // No list of members, which this word is not; otherwise a number of the group, and the others.

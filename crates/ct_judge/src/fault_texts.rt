@@ -3,6 +3,7 @@
 ghost use Rattle.std.specs.Prelude.{◌≡◌, ◌-◌, OnOk, IsTrue};
 ghost use Rattle.ct_text.specs.Adds.{Adds};
 ghost use Rattle.ct_names.specs.Group.{is_member};
+ghost use Rattle.ct_print.specs.Statements.{statement_text};
 ghost use Rattle.ct_play.specs.Expecting.{unmet};
 ghost use Rattle.ct_play.specs.Facts.{there, wanted};
 ghost use Rattle.ct_play.specs.Stating.{came_to};
@@ -18,10 +19,10 @@ use crate::missing::{push_across, push_missing, push_none_from};
 use crate::refusing::push_refused;
 use crate::trying::behind_first;
 use crate::wording::push_number;
-use ct_grammar::{Act, Claim, Fact, Goal, Line, Pick, Play, Term, Text, When, Who};
+use ct_grammar::{Act, Claim, Fact, Goal, Line, Pick, Play, Statement, Term, When, Who};
 use ct_names::Member;
 use ct_play::{LineFault, Stage, amount_of, ended, push_came_to, push_there, push_wanted, unmet};
-use ct_print::{push_claim, push_term};
+use ct_print::{push_claim, push_statement, push_term};
 use ct_settled::hindrance_of;
 use std::alloc::{AllocError, Global};
 
@@ -367,7 +368,7 @@ fn push_other(
     member: Member,
     who: &Who,
     act: &Act,
-    said: &Text,
+    said: &Statement,
 ) -> Result<(), AllocError>
     ensures { OnOk result (Adds text.old text.new (other_text stage.now member who.now act.now said.now)) }
 {
@@ -377,11 +378,11 @@ fn push_other(
 }
 
 #[tactic(auto, unfolding(ct_judging::specs::Wording::behind))]
-fn push_stated_behind(text: &mut String, words: &str, said: &Text) -> Result<(), AllocError>
-    ensures { OnOk result (Adds text.old text.new (behind words.now said.now)) }
+fn push_stated_behind(text: &mut String, words: &str, said: &Statement) -> Result<(), AllocError>
+    ensures { OnOk result (Adds text.old text.new (behind words.now (statement_text said.now))) }
 {
     text.push_str(words)?;
-    text.push_str(said.as_str())
+    push_statement(text, said)
 }
 
 #[tactic(auto, unfolding(ct_judging::specs::Wording::behind))]

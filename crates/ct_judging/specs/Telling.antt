@@ -13,12 +13,14 @@ use Rattle.ct_grammar.specs.declared.line.Line.{Line}
 use Rattle.ct_grammar.specs.declared.line.Line.TheVariants.{Play as Plays}
 use Rattle.ct_grammar.specs.declared.play.Play.{Play}
 use Rattle.ct_grammar.specs.declared.play.Play.TheVariants.{Act as Acts, Expect, Stated, Until}
+use Rattle.ct_grammar.specs.declared.statement.Statement.{Statement}
 use Rattle.ct_grammar.specs.declared.term.Term.{Term}
 use Rattle.ct_grammar.specs.declared.term.When.{When}
 use Rattle.ct_grammar.specs.declared.term.When.TheVariants.{Now, Ever, Never}
 use Rattle.ct_grammar.specs.declared.who.Who.{Who}
 use Rattle.ct_grammar.specs.declared.who.Who.TheVariants as who
 use Rattle.ct_print.specs.Goals.{claim_text, term_text}
+use Rattle.ct_print.specs.Statements.{statement_text}
 use Rattle.ct_play.specs.Acting.{done, done_by, go_on}
 use Rattle.ct_play.specs.Claims.{amount_of}
 use Rattle.ct_play.specs.Expecting.{unmet}
@@ -96,12 +98,13 @@ not_met_text w who (Plays play) = not_reached_text w who play
 not_met_text w who line = codes "not met"
 
 -- what is stated of a member's step, and what it came to
-unfoldable pub other_text : Played → ℕ → Who → Act → List ℕ → List ℕ
-other_text w p who act text =
-    numbered (codes "not so: member ") p ++ behind (codes ": stated ") text ++ behind (codes ", there is ") (came_to w who act p)
+unfoldable pub other_text : Played → ℕ → Who → Act → Statement → List ℕ
+other_text w p who act said =
+    numbered (codes "not so: member ") p ++ behind (codes ": stated ") (statement_text said)
+    ++ behind (codes ", there is ") (came_to w who act p)
 
 abbrev pub not_so_text : Played → ℕ → Line → List ℕ
-not_so_text w p (Plays (Stated who act text)) = other_text w p who act text
+not_so_text w p (Plays (Stated who act said)) = other_text w p who act said
 not_so_text w p line = codes "not so"
 
 -- a fault that needs no world
@@ -147,7 +150,7 @@ tried_of w p who act = or_before w (done_by_first who act w (p - 1))
 
 abbrev pub tried : Played → ℕ → Line → Played
 tried w p (Plays (Acts who act)) = tried_of w p who act
-tried w p (Plays (Stated who act text)) = tried_of w p who act
+tried w p (Plays (Stated who act said)) = tried_of w p who act
 tried w p line = w
 
 -- ---- faults of lines

@@ -10,6 +10,7 @@ use Rattle.ct_model.specs.declared.step.Step.TheVariants as step
 use Rattle.ct_choices.specs.Choices.{has_crashed}
 use Rattle.ct_grammar.specs.declared.act.Act.{Act}
 use Rattle.ct_grammar.specs.declared.act.Act.TheVariants.{LoseFrom}
+use Rattle.ct_grammar.specs.declared.statement.Statement.{Statement}
 use Rattle.ct_grammar.specs.declared.who.Who.{Who}
 use Rattle.ct_grammar.specs.declared.who.Who.TheVariants as who
 use Rattle.ct_play.specs.Acting.{after_losses, after_step, done, done_by, done_by_each}
@@ -17,7 +18,8 @@ use Rattle.ct_play.specs.Acting.{go_on, step_of, stepped, unless_barred, unless_
 use Rattle.ct_play.specs.Cuts.{barred}
 use Rattle.ct_play.specs.Picking.{waiting_from}
 use Rattle.ct_play.specs.Played.{Played, with_record, with_step}
-use Rattle.ct_play.specs.Stating.{done_so, done_so_by, done_so_by_each, is_stated, stated_text, unless_other}
+use Rattle.ct_play.specs.Outcomes.{is_stated, outcome}
+use Rattle.ct_play.specs.Stating.{done_so, done_so_by, done_so_by_each, unless_other}
 use Rattle.ct_play.specs.declared.line_fault.LineFault.{LineFault}
 use Rattle.ct_play.specs.declared.line_fault.LineFault.TheVariants.{NotSo}
 use Rattle.ct_laws.specs.Places.{AreAllowed, AreDeeds, EachIsAllowed, IsBy, IsDeed, IsSaid, IsUnless, behind, with_steps}
@@ -152,22 +154,22 @@ if_so : (c : Bool) (p : ℕ) (t u : Played) → (if c then Ok t else Err (NotSo 
 if_so true p t u h = (refl, cc h)
 if_so false p t u h = absurd (cc h)
 
-said_of : (s t : Played) (p : ℕ) (act : Act) (text : List ℕ) (step : Step) → step_of s.rehearsal p act ≡ Ok step →
-    barred s step ≡ None → is_stated (stated_text t.rehearsal step) text ≡ true → Grows (λ steps. steps ≡ step ∷ []) s t →
-    Grows (IsSaid act text s p) s t
-said_of s t p act text step is free came g =
+said_of : (s t : Played) (p : ℕ) (act : Act) (said : Statement) (step : Step) → step_of s.rehearsal p act ≡ Ok step →
+    barred s step ≡ None → is_stated (outcome t.rehearsal step) said ≡ true → Grows (λ steps. steps ≡ step ∷ []) s t →
+    Grows (IsSaid act said s p) s t
+said_of s t p act said step is free came g =
     let at : t ≡ with_steps s (step ∷ []) = g.is ∙ ap (with_steps s) g.so in
-    let here = ap (λ (u : Played). is_stated (stated_text u.rehearsal step) text) (sym at) ∙ came in
-    grows_more (λ steps. steps ≡ step ∷ []) (IsSaid act text s p) s t (λ steps so. (step, is, free, here, so)) g
+    let here = ap (λ (u : Played). is_stated (outcome u.rehearsal step) said) (sym at) ∙ came in
+    grows_more (λ steps. steps ≡ step ∷ []) (IsSaid act said s p) s t (λ steps so. (step, is, free, here, so)) g
 
-said_grows : (s t : Played) (p : ℕ) (act : Act) (text : List ℕ) → done_so act text s p ≡ Ok t → Grows (IsSaid act text s p) s t
+said_grows : (s t : Played) (p : ℕ) (act : Act) (said : Statement) → done_so act said s p ≡ Ok t → Grows (IsSaid act said s p) s t
 unfolding done_so
-said_grows s t p act text h =
-    let on = going_on (step_of s.rehearsal p act) (λ step. go_on (after_step s step) (unless_other p step text)) t h in
-    let more = going_on (after_step s on.0) (unless_other p on.0 text) t on.2 in
-    let so = if_so (is_stated (stated_text (more.0).rehearsal on.0) text) p more.0 t more.2 in
-    said_of s t p act text on.0 on.1 (not_barred s more.0 on.0 more.1)
-    (ap (λ (u : Played). is_stated (stated_text u.rehearsal on.0) text) (sym so.1) ∙ so.0)
+said_grows s t p act said h =
+    let on = going_on (step_of s.rehearsal p act) (λ step. go_on (after_step s step) (unless_other p step said)) t h in
+    let more = going_on (after_step s on.0) (unless_other p on.0 said) t on.2 in
+    let so = if_so (is_stated (outcome (more.0).rehearsal on.0) said) p more.0 t more.2 in
+    said_of s t p act said on.0 on.1 (not_barred s more.0 on.0 more.1)
+    (ap (λ (u : Played). is_stated (outcome u.rehearsal on.0) said) (sym so.1) ∙ so.0)
     (subst (λ u. Grows (λ steps. steps ≡ on.0 ∷ []) s u) so.1 (after_grows s more.0 on.0 more.1))
 
 -- ---- each of several members
@@ -209,8 +211,8 @@ unless_crashed Deed takes does false s t p h = does.so s t p h
 deed_does : (act : Act) → Does (IsDeed act) (λ s p. done s p act)
 deed_does act = record { so = λ s t p h. deed_grows s t p act h }
 
-said_does : (act : Act) (text : List ℕ) → Does (IsSaid act text) (done_so act text)
-said_does act text = record { so = λ s t p h. said_grows s t p act text h }
+said_does : (act : Act) (said : Statement) → Does (IsSaid act said) (done_so act said)
+said_does act said = record { so = λ s t p h. said_grows s t p act said h }
 
 done_does : (by : Who) (act : Act) → Does (IsBy by (IsDeed act)) (done_by by act)
 done_does (who.One q) act = deed_does act
@@ -219,17 +221,17 @@ done_does who.All act = record {
   so = λ s t p h. unless_crashed (IsDeed act) (λ u q. done u q act) (deed_does act) (has_crashed s.rehearsal p) s t p h;
 }
 
-said_by_does : (by : Who) (act : Act) (text : List ℕ) → Does (IsBy by (IsSaid act text)) (done_so_by by act text)
-said_by_does (who.One q) act text = said_does act text
-said_by_does (who.Some set) act text = said_does act text
-said_by_does who.All act text = record {
-  so = λ s t p h. unless_crashed (IsSaid act text) (done_so act text) (said_does act text) (has_crashed s.rehearsal p) s t p h;
+said_by_does : (by : Who) (act : Act) (said : Statement) → Does (IsBy by (IsSaid act said)) (done_so_by by act said)
+said_by_does (who.One q) act said = said_does act said
+said_by_does (who.Some set) act said = said_does act said
+said_by_does who.All act said = record {
+  so = λ s t p h. unless_crashed (IsSaid act said) (done_so act said) (said_does act said) (has_crashed s.rehearsal p) s t p h;
 }
 
 pub act_grows : (by : Who) (act : Act) (ps : List ℕ) (s t : Played) → done_by_each by act s ps ≡ Ok t →
     Grows (AreDeeds (IsBy by (IsDeed act)) s ps) s t
 act_grows by act ps s t h = each_grows (IsBy by (IsDeed act)) (done_by by act) (done_does by act) ps s t h
 
-pub stated_grows : (by : Who) (act : Act) (text : List ℕ) (ps : List ℕ) (s t : Played) → done_so_by_each by act text s ps ≡ Ok t →
-    Grows (AreDeeds (IsBy by (IsSaid act text)) s ps) s t
-stated_grows by act text ps s t h = each_grows (IsBy by (IsSaid act text)) (done_so_by by act text) (said_by_does by act text) ps s t h
+pub stated_grows : (by : Who) (act : Act) (said : Statement) (ps : List ℕ) (s t : Played) → done_so_by_each by act said s ps ≡ Ok t →
+    Grows (AreDeeds (IsBy by (IsSaid act said)) s ps) s t
+stated_grows by act said ps s t h = each_grows (IsBy by (IsSaid act said)) (done_so_by by act said) (said_by_does by act said) ps s t h

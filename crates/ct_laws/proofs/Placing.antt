@@ -177,7 +177,7 @@ anyhow P s t g = grows_more P (λ steps. EachIsAllowed s.rehearsal → P steps) 
 play_grows : (s t : Played) (play : Play) → played s play ≡ Ok t →
     GrowsIf (IsPlay s play) (record s { sides = sides_behind {E = Misread} s.sides (Ok (Plays play)) }) t
 play_grows s t (Act by act) h = anyhow _ s t (act_grows by act (named s.rehearsal.setting.members by) s t h)
-play_grows s t (Stated by act text) h = anyhow _ s t (stated_grows by act text (named s.rehearsal.setting.members by) s t h)
+play_grows s t (Stated by act said) h = anyhow _ s t (stated_grows by act said (named s.rehearsal.setting.members by) s t h)
 play_grows s t (Turns by n set) h = turned_grows s t by n set h
 play_grows s t (Settle by set) h = settled_grows s t by set h
 play_grows s t (Until by set goal) h = reached_grows s t by set goal h

@@ -17,8 +17,8 @@ use Rattle.ct_world.specs.World.{member_of}
 use Rattle.ct_grammar.specs.declared.act.Act.{Act}
 use Rattle.ct_grammar.specs.declared.act.Act.TheVariants.{Receive, Postpone, Lose, Repeat, LoseFrom}
 use Rattle.ct_grammar.specs.declared.claim.Name.{Name}
-use Rattle.ct_grammar.specs.declared.decision.Decision.{Decision}
-use Rattle.ct_grammar.specs.declared.estimate.Estimate.{Estimate}
+use Rattle.ct_grammar.specs.declared.reports.decision.Decision.{Decision}
+use Rattle.ct_grammar.specs.declared.reports.estimate.Estimate.{Estimate}
 use Rattle.ct_grammar.specs.declared.fact.Fact.{Fact}
 use Rattle.ct_grammar.specs.declared.fact.Fact.TheVariants.{Up, Crashed, Idle, Instance, Round, Phase as InPhase}
 use Rattle.ct_grammar.specs.declared.fact.Fact.TheVariants.{Received, Decided, Delivered, Table, Refuses}
@@ -29,7 +29,7 @@ use Rattle.ct_grammar.specs.declared.reason.Reason.{Reason}
 use Rattle.ct_grammar.specs.declared.reason.Reason.TheVariants.{NotThere, Across, Rules}
 use Rattle.ct_play.specs.Acting.{step_of}
 use Rattle.ct_play.specs.Cuts.{is_near}
-use Rattle.ct_play.specs.Facts.{decision_count}
+use Rattle.ct_play.specs.Facts.{decision_count, the_name}
 use Rattle.ct_play.specs.Picking.{is_so, sender_of, was_sent}
 use Rattle.ct_play.specs.Played.{Played}
 use Rattle.ct_laws.specs.Facts.{HasGot, Stands}
@@ -97,9 +97,6 @@ abbrev pub HasEstimate : Rehearsal → ℕ → ℕ → ℕ → Type 0
 HasEstimate w p round q = (v : Value) × (ts : ℕ) × HasGot w p (Est (member_of w p).last round q v ts)
 
 -- ---- messages
-
-abbrev pub the_name : Message → Name
-the_name m = record { origin = m.origin; number = m.number }
 
 -- the names are those of the messages, as many and in any order
 abbrev pub AreThose : List Name → List Message → Type 0

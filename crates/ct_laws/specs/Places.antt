@@ -16,6 +16,7 @@ use Rattle.ct_grammar.specs.declared.line.Line.{Line}
 use Rattle.ct_grammar.specs.declared.line.Line.TheVariants.{Blank, Given, Play as Plays}
 use Rattle.ct_grammar.specs.declared.play.Play.{Play}
 use Rattle.ct_grammar.specs.declared.play.Play.TheVariants.{Act as ByAct, Stated, Turns, Settle, Until, Cut, Heal, Expect}
+use Rattle.ct_grammar.specs.declared.statement.Statement.{Statement}
 use Rattle.ct_grammar.specs.declared.who.Who.{Who}
 use Rattle.ct_grammar.specs.declared.who.Who.TheVariants.{All}
 use Rattle.ct_play.specs.Acting.{step_of}
@@ -23,7 +24,7 @@ use Rattle.ct_play.specs.Cuts.{barred}
 use Rattle.ct_play.specs.Goals.{uncut}
 use Rattle.ct_play.specs.Picking.{waiting_from}
 use Rattle.ct_play.specs.Played.{Played, with_record}
-use Rattle.ct_play.specs.Stating.{is_stated, stated_text}
+use Rattle.ct_play.specs.Outcomes.{is_stated, outcome}
 use Rattle.ct_play.specs.Turning.{tried_at}
 use Rattle.ct_play.specs.Who.{named}
 use Rattle.ct_judging.specs.Reading.{line_in}
@@ -55,10 +56,10 @@ IsDeed (LoseFrom set) s p steps = steps ≡ map (Lose p) (waiting_from s.rehears
 IsDeed act s p steps = (step : Step) × (step_of s.rehearsal p act ≡ Ok step) × (barred s step ≡ None) × (steps ≡ step ∷ [])
 
 -- p takes one step of this, of which this is stated
-abbrev pub IsSaid : Act → List ℕ → Played → ℕ → List Step → Type 0
-IsSaid act text s p steps =
+abbrev pub IsSaid : Act → Statement → Played → ℕ → List Step → Type 0
+IsSaid act said s p steps =
     (step : Step) × (step_of s.rehearsal p act ≡ Ok step) × (barred s step ≡ None)
-    × (is_stated (stated_text (extended s.rehearsal step) step) text ≡ true) × (steps ≡ step ∷ [])
+    × (is_stated (outcome (extended s.rehearsal step) step) said ≡ true) × (steps ≡ step ∷ [])
 
 -- the same; where all are named, one that has crashed does nothing
 abbrev pub IsUnless : Bool → Type 0 → List Step → Type 0
@@ -107,7 +108,7 @@ AreUntil goal set s ps steps =
 -- have none; what is expected is shown
 abbrev pub IsPlay : Played → Play → List Step → Type 0
 IsPlay s (ByAct who act) steps = AreDeeds (IsBy who (IsDeed act)) s (named s.rehearsal.setting.members who) steps
-IsPlay s (Stated who act text) steps = AreDeeds (IsBy who (IsSaid act text)) s (named s.rehearsal.setting.members who) steps
+IsPlay s (Stated who act said) steps = AreDeeds (IsBy who (IsSaid act said)) s (named s.rehearsal.setting.members who) steps
 IsPlay s (Turns who n set) steps = AreDeeds (IsTurn set) s (rounds n (named s.rehearsal.setting.members who)) steps
 IsPlay s (Settle who set) steps = AreSettling set s (named s.rehearsal.setting.members who) steps
 IsPlay s (Until who set goal) steps = AreUntil goal set s (named s.rehearsal.setting.members who) steps

@@ -23,9 +23,9 @@ use Rattle.ct_grammar.specs.Numbers.{max_u64}
 use Rattle.ct_grammar.specs.Words.{Word}
 use Rattle.ct_grammar.specs.declared.claim.Name.{Name}
 use Rattle.ct_grammar.specs.declared.fact.Fact.TheVariants.{Delivered, Table}
-use Rattle.ct_play.specs.Facts.{are_named, is_named}
+use Rattle.ct_play.specs.Facts.{are_named, is_named, the_name}
 use Rattle.ct_play.specs.Played.{Played}
-use Rattle.ct_listing.specs.Expecting.{IsThere, the_name}
+use Rattle.ct_listing.specs.Expecting.{IsThere}
 use Rattle.ct_listing.specs.Leading.{one_line}
 use Rattle.ct_print.specs.Facts.{fact_text}
 use Rattle.ct_print.specs.Reports.{name_text}

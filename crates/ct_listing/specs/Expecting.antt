@@ -1,10 +1,8 @@
 -- What may be expected.
 use Rattle.std.specs.Prelude.{◌≡◌, ℕ, [], ◌∷◌, true}
-use Rattle.ct_names.specs.Message.{Message}
 use Rattle.ct_grammar.specs.declared.act.Act.{Act}
 use Rattle.ct_grammar.specs.declared.act.Act.TheVariants.{LoseFrom}
 use Rattle.ct_grammar.specs.declared.claim.Claim.TheVariants as claim
-use Rattle.ct_grammar.specs.declared.claim.Name.{Name}
 use Rattle.ct_grammar.specs.declared.fact.Fact.{Fact}
 use Rattle.ct_grammar.specs.declared.goal.Goal.{Goal}
 use Rattle.ct_grammar.specs.declared.term.When.TheVariants.{Now}
@@ -23,10 +21,6 @@ IsLone act = Unit {0}
 -- the goal that the fact holds of p now
 abbrev pub fact_goal : ℕ → Fact → Goal
 fact_goal p fact = record { when = Now; whom = whom.One p; claim = claim.Fact fact } ∷ []
-
--- the name of the message
-abbrev pub the_name : Message → Name
-the_name m = record { origin = m.origin; number = m.number }
 
 -- the fact is what is there at p, and can be written
 pub record IsThere (s : Played) (p : ℕ) (fact : Fact) : Type 0 where

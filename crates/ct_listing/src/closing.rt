@@ -5,7 +5,8 @@ ghost use Rattle.ct_names.specs.Group.{is_member};
 ghost use Rattle.ct_names.specs.declared.limit.TheConstants.{REGISTERS};
 ghost use Rattle.ct_grammar.specs.Numbers.{max_u64};
 ghost use Rattle.ct_play.specs.Facts.{place_of};
-ghost use Rattle.ct_listing.specs.Expecting.{IsThere, the_name};
+ghost use Rattle.ct_play.specs.Facts.{the_name};
+ghost use Rattle.ct_listing.specs.Expecting.{IsThere};
 ghost use Rattle.ct_listing.specs.Leading.{Leads};
 ghost use Rattle.ct_print.specs.Writable.{NamesFit};
 

@@ -4,7 +4,7 @@ ghost use Rattle.std.specs.Prelude.{◌≤◌};
 
 use ct_model::Step;
 use ct_names::{MAX_ENVELOPES, Member};
-use ct_play::push_outcome;
+use ct_play::{outcome, push_came};
 use ct_text::{instance_of, round_of};
 use ct_world::{Wire, World};
 use std::alloc::{AllocError, Global};
@@ -36,7 +36,7 @@ pub(crate) fn remark_of(
 // What the step came to.
 fn push_result(text: &mut String, word: &str, world: &World, step: Step) -> Result<(), AllocError> {
     text.push_str(word)?;
-    push_outcome(text, world, step)
+    push_came(text, outcome(world, step))
 }
 
 // The name of the message that was sent first since.

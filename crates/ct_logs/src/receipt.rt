@@ -3,9 +3,10 @@
 use crate::culprit::push_line_why;
 use crate::sent::sent_at;
 use crate::sources::Sources;
-use ct_grammar::Carried;
+use ct_grammar::{Carried, Statement};
 use ct_merge::{FullName, LogAct, OwnFault, Why};
 use ct_names::Member;
+use ct_print::push_statement;
 use ct_world::World;
 use std::alloc::{AllocError, Global};
 
@@ -15,7 +16,7 @@ pub(crate) struct Receipt<'a> {
     member: Member,
     place: usize,
     name: FullName,
-    said: &'a str,
+    said: Option<&'a Statement>,
 }
 
 impl<'a> Receipt<'a> {
@@ -25,15 +26,11 @@ impl<'a> Receipt<'a> {
         let LogAct::Receive(name) = line.act else {
             return None;
         };
-        let said = match &line.said {
-            Some(text) => text.as_str(),
-            None => "",
-        };
         Some(Receipt {
             member,
             place,
             name,
-            said,
+            said: line.said.as_ref(),
         })
     }
 
@@ -83,11 +80,14 @@ fn push_sender(
     let file = sources.name(member);
     let number = sources.number(member, receipt.place);
     sources.push(text, receipt.name.from, place)?;
+    write!(text, "member {member} received ")?;
+    if let Some(said) = said {
+        push_statement(text, said)?;
+    }
     write!(
         text,
-        "member {member} received {said} ({file} line {number})"
-    )?;
-    write!(text, ", and by this line it is {came}")
+        " ({file} line {number}), and by this line it is {came}"
+    )
 }
 
 // The other reply and the sender's line that sent it, if one did.

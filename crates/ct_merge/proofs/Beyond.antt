@@ -5,7 +5,7 @@ use Rattle.ct_merge.proofs.Common.{after, next, Rehearsal, state_of, extended, e
 use Rattle.ct_merge.proofs.Common.{submissions, at_serial, Step, number_same, next-is, IsDone, IsThere, IsBarred, nobody, stopped, unable}
 use Rattle.ct_merge.proofs.Common.{unknown, letter, Sends, IsFrom, IsPosted, IsSame, outcome_of, IsLike, gets, Moment, act_of, is_own, own}
 use Rattle.ct_merge.proofs.Common.{IsMerge, IsTold, log_of, step_of, carried_of, named, IsRun, IsBegun, IsOfGroup, SendsNoMore, Carried}
-use Rattle.ct_merge.proofs.Common.{FullName, LogAct, Receive, Vec, is_stated, stated_text, down, never, refused, waits, LogLine}
+use Rattle.ct_merge.proofs.Common.{FullName, LogAct, Receive, Vec, is_stated, outcome, down, never, refused, waits, LogLine}
 use Rattle.ct_model.specs.Next.{wire_to}
 use Rattle.ct_merge.specs.Barred.{AreBarred}
 use Rattle.ct_play.specs.Picking.{sender_of}
@@ -20,7 +20,7 @@ use Rattle.ct_merge.proofs.Posting.{is_named, posted, sent_serial}
 use Rattle.ct_merge.proofs.Sameness.{Acts, AreSame, below_or_not, both_get, like_there, same_deeds, same_wire, sends_same}
 use Rattle.ct_merge.proofs.Telling.{IsReceipt, IsToldStep, carried_same, receipt_by, wire_named, told_step}
 use Rattle.ct_merge.proofs.Begun.{IsByLines, acts_by, acts_in, by_lines, is_member_of, merge_begun, zip_length}
-use Rattle.ct_merge.proofs.Outcomes.{text_same}
+use Rattle.ct_merge.proofs.Outcomes.{outcome_same}
 use Rattle.ct_merge.proofs.Running.{by_steps, run_next}
 use Rattle.ct_merge.proofs.Taking.{own_step}
 
@@ -206,13 +206,13 @@ module _ (logs : List (Vec LogLine)) (t : Rehearsal) (u : IsRun t) (lines_t : Is
         let step_t : Step = step_of p f.0 line.act in
         let go = enabled_of t.setting (state_of t) step_t s.outcome (sym f.2 ∙ outcome_is w.setting (state_of w) step h s) in
         let same : IsSame p (at w step) (at t step_t) = record { like = alike; outcome = f.2 } in
-        let text : stated_text (extended w step) step ≡ stated_text (extended t step_t) step_t =
-        text_same (extended w step) (extended t step_t) p (length (own w p)) (length (own t p)) (at w step) (at t step_t) line.act
+        let came : outcome (extended w step) step ≡ outcome (extended t step_t) step_t =
+        outcome_same (extended w step) (extended t step_t) p (length (own w p)) (length (own t p)) (at w step) (at t step_t) line.act
         (run_next w step h r e) (run_next t step_t (after t.setting (state_of t) (actor step_t) s.outcome) u go) group isp
         (own_last w step p mine) (own_last t step_t p (own_step t p f.0 line.act)) told.act f.1 same in
         none f.0 (after t.setting (state_of t) (actor step_t) s.outcome) go (record {
           act = f.1;
-          said = subst (λ z. IfSome line.said (λ said. is_stated z said ≡ true)) text told.said;
+          said = subst (λ z. IfSome line.said (λ said. is_stated z said ≡ true)) came told.said;
         })
 
     by_bar : IsBarred t stays p line → ⊥

@@ -84,6 +84,6 @@ pub use Rattle.ct_names.specs.declared.refusal.Refusal.TheVariants.{Crashed, Ful
 pub use Rattle.ct_play.specs.Faults.{UnlessShort, is_short}
 pub use Rattle.ct_play.specs.Picking.{carried_of}
 pub use Rattle.ct_play.specs.Played.{Played, with_step}
-pub use Rattle.ct_play.specs.Stating.{is_stated, stated_text}
+pub use Rattle.ct_play.specs.Outcomes.{is_stated, outcome}
 pub use Rattle.ct_play.specs.declared.line_fault.LineFault.{LineFault}
 pub use Rattle.ct_play.specs.declared.line_fault.LineFault.TheVariants.{Refused}

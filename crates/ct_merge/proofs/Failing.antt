@@ -3,7 +3,7 @@ use Rattle.ct_merge.proofs.Common.{◌≡◌, ℕ, ◌+◌, Bool, true, false, L
 use Rattle.ct_merge.proofs.Common.{ap, ◌∙◌, subst, arith, ◌==◌, Vec, is_member, Refusal, Full, actor, test, cause, first_fault, limits}
 use Rattle.ct_merge.proofs.Common.{or_else, tests, IsAway, IsLawful, IsPresent, NamesWaiting, is_waiting, Outcome, next, row, Rehearsal}
 use Rattle.ct_merge.proofs.Common.{extended, line_of, state_of, Setting, State, is_crashed, member, Step, made-then, some-none}
-use Rattle.ct_merge.proofs.Common.{cause-allowed, own_tests-is, next-is, is_stated, stated_text, IsBarred, IsThere, down, refused, own}
+use Rattle.ct_merge.proofs.Common.{cause-allowed, own_tests-is, next-is, is_stated, outcome, IsBarred, IsThere, down, refused, own}
 use Rattle.ct_merge.proofs.Common.{step_of, IsRun, Differs, IsAsked, IsCulprit, IsFaultAt, IsRepetition, IsWhy, Tells, NeverMerges, is_full}
 use Rattle.ct_merge.proofs.Common.{is_limit, is_wait, FullName, LogAct, Receive, Crash, LogLine, OwnFault, Culprit, Why, Fault}
 use Rattle.ct_names.specs.declared.limit.Limit.TheVariants.{Submissions, Instances, Rounds, Envelopes, Cells, Steps}
@@ -89,13 +89,12 @@ module _ (w : Rehearsal) (law : IsLawful w) (p : ℕ) (line : LogLine) (stays : 
             let y = told_step w p (step_of p k line.act) line.act told.act (acts_of p k line.act) in
             let same : step_of p k line.act ≡ d.step =
             one_step w law.runs p (step_of p k line.act) d.step line.act h ok.after y x e ok.enabled in
-            let says : is_stated (stated_text (extended w (step_of p k line.act)) (step_of p k line.act)) (d.other).text ≡ true =
-            subst (λ o. IfSome o (λ text. is_stated (stated_text (extended w (step_of p k line.act)) (step_of p k line.act)) text ≡ true))
+            let says : is_stated (outcome (extended w (step_of p k line.act)) (step_of p k line.act)) (d.other).statement ≡ true =
+            subst (λ o. IfSome o (λ said. is_stated (outcome (extended w (step_of p k line.act)) (step_of p k line.act)) said ≡ true))
             (d.other).stated told.said in
-            let same_text : is_stated came (d.other).text ≡ true =
-            subst (λ z. is_stated z (d.other).text ≡ true) (d.other).is
-            (subst (λ z. is_stated (stated_text (extended w z) z) (d.other).text ≡ true) same says) in
-            let other : is_stated came (d.other).text ≡ false = (d.other).other in
+            let so : is_stated (outcome (extended w d.step) d.step) (d.other).statement ≡ true =
+            subst (λ z. is_stated (outcome (extended w z) z) (d.other).statement ≡ true) same says in
+            let other : is_stated (outcome (extended w d.step) d.step) (d.other).statement ≡ false = (d.other).other in
             absurd (cc)),
         subst (λ q. is_member w.setting.members q ≡ true) (d.tells).actor t.in_group,
       )

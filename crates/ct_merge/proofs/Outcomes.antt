@@ -4,17 +4,18 @@ use Rattle.ct_merge.proofs.Common.{ap, ◌∙◌, subst, arith, slice_get, optio
 use Rattle.ct_merge.proofs.Common.{is_member, Envelope, Wire, order, without_value, Outcome, next, receive, row, wire_to, Rehearsal}
 use Rattle.ct_merge.proofs.Common.{state_of, extended, Setting, Member, State, at_serial, member, value_of, made-map, some-none, some-same}
 use Rattle.ct_merge.proofs.Common.{get-front, IsStep, next-is, deliver_row-is, follow_row-is, IsSame, deed_of, letter, outcome_of, Moment}
-use Rattle.ct_merge.proofs.Common.{act_of, own, stated_text, step_of, IsRun, FullName, LogAct, Receive, Begin, Deliver, Follow}
+use Rattle.ct_merge.proofs.Common.{act_of, own, outcome, step_of, IsRun, FullName, LogAct, Receive, Begin, Deliver, Follow}
 use Rattle.std.specs.Prelude.{unwrap_or}
 use Rattle.ct_names.specs.Batch.{Batch}
+use Rattle.ct_names.specs.Message.{Message}
 use Rattle.ct_names.specs.Prefix.{IsPrefix}
 use Rattle.ct_model.proofs.Delivery.Prefixes.{order-place, order-prefix}
 use Rattle.ct_model.proofs.Delivery.Safety.{safe-run}
 use Rattle.ct_world.specs.Standing.{estimate_by, heard_by}
 use Rattle.ct_world.specs.World.{if_member, member_of}
-use Rattle.ct_text.specs.Standing.{batch_text, estimate_alone, estimate_of, instance_of}
-use Rattle.ct_text.specs.Shapes.{estimate_text, set_text, value_text}
-use Rattle.ct_play.specs.Stating.{carried_text, envelope_text}
+use Rattle.ct_text.specs.Standing.{instance_of}
+use Rattle.ct_play.specs.Outcomes.{alone_of, batch_by, carried_by, carried_of, estimate_of}
+use Rattle.ct_play.specs.declared.outcomes.Came.TheVariants as came
 use Rattle.ct_merge.specs.declared.log_act.LogAct.TheVariants.{Enter, Choose, Adopt, Conclude}
 use Rattle.ct_merge.proofs.Begun.{is_member_of}
 use Rattle.ct_merge.proofs.Local.{acts_of, outcome_is}
@@ -32,17 +33,15 @@ module _ (w v : Rehearsal) (p : ℕ) (group : w.setting ≡ v.setting) (same : m
       ap (λ (s : Setting). if is_member s.members p then f (member (state_of w) p) else None) group
       ∙ ap (λ (m : Member). if is_member v.setting.members p then f m else None) same
 
-  estimate_same : estimate_of w p ≡ estimate_of v p
-  unfolding estimate_of
-  estimate_same = ap estimate_text (if_same estimate_by)
+  estimate_same : estimate_of (if_member w p (estimate_by (member_of w p))) ≡ estimate_of (if_member v p (estimate_by (member_of v p)))
+  estimate_same = ap estimate_of (if_same estimate_by)
 
-  alone_same : estimate_alone w p ≡ estimate_alone v p
-  unfolding estimate_alone
-  alone_same = ap value_text (if_same estimate_by)
+  alone_same : alone_of (if_member w p (estimate_by (member_of w p))) ≡ alone_of (if_member v p (estimate_by (member_of v p)))
+  alone_same = ap alone_of (if_same estimate_by)
 
-  heard_same : (from : ℕ) → value_text (if_member w p (heard_by (member_of w p) from))
-      ≡ value_text (if_member v p (heard_by (member_of v p) from))
-  heard_same from = ap value_text (if_same (λ m. heard_by m from))
+  heard_same : (from : ℕ) → alone_of (if_member w p (heard_by (member_of w p) from))
+      ≡ alone_of (if_member v p (heard_by (member_of v p) from))
+  heard_same from = ap alone_of (if_same (λ m. heard_by m from))
 
 -- ---- batches
 
@@ -61,17 +60,17 @@ order_at w r p k b isp e =
 IsLastBatch : Rehearsal → ℕ → Batch → Type 0
 IsLastBatch w p b = at_serial (member (state_of w) p).batches (member (state_of w) p).last ≡ Some b
 
-text_of : Option Batch → List ℕ
-text_of o = set_text (unwrap_or (option_map (λ (b : Batch). b.messages) o) [])
+messages_of : Option Batch → List Message
+messages_of o = unwrap_or (option_map (λ (b : Batch). b.messages) o) []
 
-last_text : (w : Rehearsal) → IsRun w → (p : ℕ) (b : Batch) → IsMember w.setting.members p → is_member w.setting.members p ≡ true →
-    IsLastBatch w p b → batch_text w (instance_of w p) ≡ text_of (Some b)
-unfolding batch_text instance_of IsLastBatch text_of
-last_text w r p b isp test e =
-    ap (λ t. text_of (at_serial (order (state_of w)) (unwrap_or {T = ℕ × Bool}
+last_batch : (w : Rehearsal) → IsRun w → (p : ℕ) (b : Batch) → IsMember w.setting.members p → is_member w.setting.members p ≡ true →
+    IsLastBatch w p b → batch_by w p ≡ messages_of (Some b)
+unfolding batch_by instance_of IsLastBatch messages_of
+last_batch w r p b isp test e =
+    ap (λ t. messages_of (at_serial (order (state_of w)) (unwrap_or {T = ℕ × Bool}
     (if t then Some ((member_of w p).last, is_some (member_of w p).current) else None)
     (0, false)).0)) test
-    ∙ ap text_of (order_at w r p (member (state_of w) p).last b isp e)
+    ∙ ap messages_of (order_at w r p (member (state_of w) p).last b isp e)
 
 -- behind a step that closes an instance it does
 closes : (m o : Member) (b : Batch) → o.batches ≡ m.batches ++ b ∷ [] → o.last ≡ b.instance →
@@ -162,39 +161,39 @@ module _ (w : Rehearsal) (p i : ℕ) (m : Moment) (f : IsPlaced w p i m) (act : 
       let same : made.from ≡ (receipt name is).wire = some-same made.from (receipt name is).wire (sym made.is ∙ (receipt name is).gets) in
       ap (λ (o : Outcome). o.member.got) (sym made.gives) ∙ ap (λ x. (member g p).got ++ x ∷ []) same
 
-  text_received : (name : FullName) (is : act ≡ Receive name) → carried_text (extended m.before m.step) telling.serial
-      ≡ envelope_text (Some (without_value (letter p (receipt name is).wire))) (unwrap_or (value_of (receipt name is).wire) [])
-  unfolding carried_text
-  text_received name is =
+  carried_there : (name : FullName) (is : act ≡ Receive name) → carried_of (extended m.before m.step) telling.serial
+      ≡ carried_by (Some (without_value (letter p (receipt name is).wire))) (unwrap_or (value_of (receipt name is).wire) [])
+  unfolding carried_of
+  carried_there name is =
       let there = (from_kept m.before m.step f.state f.run f.enabled name.from p (receipt name is).wire telling.serial
       (receipt name is).from).there in
-      ap (λ (o : Option Envelope). envelope_text (option_map without_value o)
+      ap (λ (o : Option Envelope). carried_by (option_map without_value o)
       (unwrap_or (option_and_then (λ (e : Envelope). value_of e.wire) o) []))
       there
 
 -- ---- two runs
 
 by_act : (w v : Rehearsal) (p k l : ℕ) → w.setting ≡ v.setting → member (state_of w) p ≡ member (state_of v) p → (act : LogAct) →
-    ((name : FullName) → act ≡ Receive name → carried_text w k ≡ carried_text v l) →
-    (closing act → batch_text w (instance_of w p) ≡ batch_text v (instance_of v p)) →
-    stated_text w (step_of p k act) ≡ stated_text v (step_of p l act)
+    ((name : FullName) → act ≡ Receive name → carried_of w k ≡ carried_of v l) →
+    (closing act → batch_by w p ≡ batch_by v p) →
+    outcome w (step_of p k act) ≡ outcome v (step_of p l act)
 by_act w v p k l group same (Receive name) carried batch = carried name refl
 by_act w v p k l group same Begin carried batch = alone_same w v p group same
 by_act w v p k l group same Enter carried batch = estimate_same w v p group same
 by_act w v p k l group same (Choose from) carried batch = heard_same w v p group same from
 by_act w v p k l group same Adopt carried batch = estimate_same w v p group same
-by_act w v p k l group same Deliver carried batch = batch tt
-by_act w v p k l group same Follow carried batch = batch tt
+by_act w v p k l group same Deliver carried batch = ap (λ l. (came.Batch, l)) (batch tt)
+by_act w v p k l group same Follow carried batch = ap (λ l. (came.Batch, l)) (batch tt)
 by_act w v p k l group same Conclude carried batch = alone_same w v p group same
 by_act w v p k l group same _ carried batch = refl
 
--- the same own step of two runs comes to the same text
-pub text_same : (w v : Rehearsal) (p i j : ℕ) (m n : Moment) (act : LogAct) → IsRun w → IsRun v → v.setting ≡ w.setting →
+-- the same own step of two runs comes to the same
+pub outcome_same : (w v : Rehearsal) (p i j : ℕ) (m n : Moment) (act : LogAct) → IsRun w → IsRun v → v.setting ≡ w.setting →
     IsMember w.setting.members p → slice_get (own w p) i ≡ Some m → slice_get (own v p) j ≡ Some n →
     act_of m.before m.step ≡ Some act → act_of n.before n.step ≡ Some act → IsSame p m n →
-    stated_text (extended m.before m.step) m.step ≡ stated_text (extended n.before n.step) n.step
+    outcome (extended m.before m.step) m.step ≡ outcome (extended n.before n.step) n.step
 unfolding IsLastBatch
-text_same w v p i j m n act r u group isp there also told told_too same =
+outcome_same w v p i j m n act r u group isp there also told told_too same =
     let a = placed w r p i m there in
     let b = placed v u p j n also in
     let setting : m.before.setting ≡ n.before.setting = a.setting ∙ (sym group ∙ sym b.setting) in
@@ -203,21 +202,21 @@ text_same w v p i j m n act r u group isp there also told told_too same =
     let alike = (like_behind w v p i j m n a b same).member in
     let x = telling w p i m a act told in
     let y = telling v p j n b act told_too in
-    ap (λ z. stated_text (extended m.before m.step) z) x.is
+    ap (λ z. outcome (extended m.before m.step) z) x.is
     ∙ (by_act (extended m.before m.step) (extended n.before n.step) p x.serial y.serial setting alike act
-    (λ name is. text_received w p i m a act told name is
-    ∙ (ap (λ z. envelope_text (Some (without_value (letter p z))) (unwrap_or (value_of z) []))
+    (λ name is. carried_there w p i m a act told name is
+    ∙ (ap (λ z. carried_by (Some (without_value (letter p z))) (unwrap_or (value_of z) []))
     (last_same (member (state_of m.before) p).got (receipt w p i m a act told name is).wire (receipt v p j n b act told_too name is).wire
     (sym (got w p i m a act told name is)
     ∙ (ap (λ (o : Outcome). o.member.got) (some-same (turn w p i m a act told).outcome (turn v p j n b act told_too).outcome
     (sym (deed w p i m a act told) ∙ (same.outcome ∙ deed v p j n b act told_too)))
     ∙ (got v p j n b act told_too name is
     ∙ ap (λ (z : Member). z.got ++ (receipt v p j n b act told_too name is).wire ∷ []) (sym same.like.member)))))
-    ∙ sym (text_received v p j n b act told_too name is)))
+    ∙ sym (carried_there v p j n b act told_too name is)))
     (λ c.
     let z = batch_there w p i m a act told c isp_m in
-    last_text (extended m.before m.step) (run_behind w p i m a act told) p z.0 isp_m (is_member_of m.before.setting.members p isp_m) z.1
-    ∙ sym (last_text (extended n.before n.step) (run_behind v p j n b act told_too) p z.0 isp_n
+    last_batch (extended m.before m.step) (run_behind w p i m a act told) p z.0 isp_m (is_member_of m.before.setting.members p isp_m) z.1
+    ∙ sym (last_batch (extended n.before n.step) (run_behind v p j n b act told_too) p z.0 isp_n
     (is_member_of n.before.setting.members p isp_n)
     (subst (λ (x : Member). at_serial x.batches x.last ≡ Some z.0) alike z.1)))
-    ∙ sym (ap (λ z. stated_text (extended n.before n.step) z) y.is))
+    ∙ sym (ap (λ z. outcome (extended n.before n.step) z) y.is))

@@ -2,7 +2,7 @@
 use Rattle.ct_merge.proofs.Common.{◌≡◌, ◌≢◌, ℕ, ◌+◌, ◌<◌, ◌==◌, Bool, true, false, ◌&&◌, List, [], ◌∷◌, ◌++◌, Some, None, IfSome, ap, sym}
 use Rattle.ct_merge.proofs.Common.{◌∙◌, refl, length, take, arith, subst, length-append, option_map, slice_get, AllZip, take_more}
 use Rattle.ct_merge.proofs.Common.{get_or_from_slice_get, Rehearsal, extended, Step, Repeat, some-none, some-same, self_number, is_stated}
-use Rattle.ct_merge.proofs.Common.{stated_text, IsTold, act_of, is_own, own, IsLater, IsReady, IsSerialOf, IsTakenTo, LeavesAll}
+use Rattle.ct_merge.proofs.Common.{outcome, IsTold, act_of, is_own, own, IsLater, IsReady, IsSerialOf, IsTakenTo, LeavesAll}
 use Rattle.ct_merge.proofs.Common.{LeavesOthers, Takes, received, step_of, IsUnsent, IsWaiting, WaitsIn, FullName, LogAct, LogLine}
 use Rattle.std.proofs.lemmas.Bool.{ne_eqb}
 use Rattle.std.proofs.lemmas.Slice.Zip.{all_zipped_more}
@@ -104,14 +104,14 @@ ready_there w p log count k r none = some-none r.line (sym none ∙ r.there)
 -- the line is taken by its step, which came to what it states
 pub takes : (old mid new : Rehearsal) (p k : ℕ) (line : LogLine) → LeavesAll old mid → IsSerialOf mid p line.act k →
     new ≡ extended mid (step_of p k line.act) →
-    IfSome line.said (λ text. is_stated (stated_text new (step_of p k line.act)) text ≡ true) → Takes old p line new
+    IfSome line.said (λ said. is_stated (outcome new (step_of p k line.act)) said ≡ true) → Takes old p line new
 takes old mid new p k line same serial e said =
     let step : Step = step_of p k line.act in
     record {
       moment = at mid step;
       told = record {
         act = act_is mid p k line.act serial;
-        said = subst (λ (w : Rehearsal). IfSome line.said (λ text. is_stated (stated_text w step) text ≡ true)) e said;
+        said = subst (λ (w : Rehearsal). IfSome line.said (λ said. is_stated (outcome w step) said ≡ true)) e said;
       };
       own =
           ap (λ (w : Rehearsal). own w p) e

@@ -14,6 +14,7 @@ use Rattle.ct_grammar.specs.declared.pick.Pick.{Pick}
 use Rattle.ct_grammar.specs.declared.pick.Pick.TheVariants as picks
 use Rattle.ct_grammar.specs.declared.play.Play.{Play}
 use Rattle.ct_grammar.specs.declared.play.Play.TheVariants as plays
+use Rattle.ct_grammar.specs.declared.statement.Statement.{Statement}
 use Rattle.ct_grammar.specs.declared.who.Who.TheVariants.{One}
 use Rattle.ct_merge.specs.Expected.{expected}
 use Rattle.ct_merge.specs.Proposers.{act_lacks_sender, without_sender}
@@ -46,12 +47,12 @@ act_in_log acts.Follow = Ok Follow
 act_in_log acts.Crash = Ok Crash
 act_in_log _ = Err Network
 
-abbrev pub told_as : ℕ → Option (List ℕ) → Bool → Result LogAct NoEntry → Result Entry NoEntry
+abbrev pub told_as : ℕ → Option Statement → Bool → Result LogAct NoEntry → Result Entry NoEntry
 told_as p said lacks_sender (Ok act) = Ok (Told p (record { act = act; said = said; lacks_sender = lacks_sender }))
 told_as p said lacks_sender (Err why) = Err why
 
 -- what p did, and what that came to, where it is stated
-abbrev pub told : ℕ → Act → Option (List ℕ) → Result Entry NoEntry
+abbrev pub told : ℕ → Act → Option Statement → Result Entry NoEntry
 told p a said = told_as p said (act_lacks_sender a) (act_in_log a)
 
 -- what a line plays, as logs have it: an act of one member, with what it came to or without; or what is expected of one

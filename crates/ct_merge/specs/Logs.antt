@@ -10,7 +10,7 @@ use Rattle.ct_model.specs.Rehearsal.{Rehearsal, empty, extended}
 use Rattle.ct_model.specs.declared.step.Step.{Step}
 use Rattle.ct_model.specs.declared.step.Step.TheVariants as step
 use Rattle.ct_merge.specs.Names.{full_name}
-use Rattle.ct_play.specs.Stating.{is_stated, stated_text}
+use Rattle.ct_play.specs.Outcomes.{is_stated, outcome}
 use Rattle.ct_merge.specs.declared.log_act.LogAct.{LogAct}
 use Rattle.ct_merge.specs.declared.log_act.LogAct.TheVariants.{Submit, Receive, Begin, Enter, Choose, Adopt, Suspect, Conclude, Deliver}
 use Rattle.ct_merge.specs.declared.log_act.LogAct.TheVariants.{Follow, Crash}
@@ -61,7 +61,7 @@ act_of w _ = None
 -- the line tells of this step, and of what it came to, if it states that
 pub record IsTold (m : Moment) (line : LogLine) : Type 0 where
   pub act : act_of m.before m.step ≡ Some line.act
-  pub said : IfSome line.said (λ text. is_stated (stated_text (extended m.before m.step) m.step) text ≡ true)
+  pub said : IfSome line.said (λ statement. is_stated (outcome (extended m.before m.step) m.step) statement ≡ true)
 
 -- p's own steps in the record are those of these lines, in order
 abbrev pub IsLog : Rehearsal → ℕ → List LogLine → Type 0

@@ -10,6 +10,7 @@ use Rattle.ct_model.specs.Rehearsal.{Rehearsal, extended}
 use Rattle.ct_model.specs.Setting.{Setting}
 use Rattle.ct_model.specs.declared.step.Step.{Step}
 use Rattle.ct_model.specs.declared.step.Step.TheVariants.{Repeat}
+use Rattle.ct_grammar.specs.declared.statement.Statement.{Statement}
 use Rattle.ct_play.specs.Faults.{UnlessShort, is_short}
 use Rattle.ct_play.specs.declared.line_fault.LineFault.{LineFault}
 use Rattle.ct_play.specs.declared.line_fault.LineFault.TheVariants.{Refused, NotSo}
@@ -17,7 +18,7 @@ use Rattle.ct_merge.specs.Logs.{act_of, log_of}
 use Rattle.ct_merge.specs.Merging.{IsLater, IsTakenFrom, IsTakenTo, LeavesAll, LeavesOthers, Taken, count_of}
 use Rattle.ct_merge.specs.Names.{IsSentAs}
 use Rattle.ct_merge.specs.Sending.{may_come}
-use Rattle.ct_play.specs.Stating.{is_stated, stated_text}
+use Rattle.ct_play.specs.Outcomes.{came_text, is_stated, outcome}
 use Rattle.ct_merge.specs.Waits.{IsUnsent}
 use Rattle.ct_merge.specs.declared.full_name.FullName.{FullName}
 use Rattle.ct_merge.specs.declared.log_act.LogAct.TheVariants.{Receive}
@@ -56,12 +57,12 @@ pub record IsOfAbsent (w : Rehearsal) (p : ℕ) (step : Step) : Type 0 where
   pub actor : actor step ≡ p
   pub absent : IsPresent w p → ⊥
 
--- a text is stated, and the step that led to this record came to this, which the text doesn't state
-pub record IsOther (w : Rehearsal) (step : Step) (said : Option (List ℕ)) (came : List ℕ) : Type 0 where
-  pub text : List ℕ
-  pub stated : said ≡ Some text
-  pub is : stated_text w step ≡ came
-  pub other : is_stated came text ≡ false
+-- something is stated, and the step that led to this record did not come to that, but to this
+pub record IsOther (w : Rehearsal) (step : Step) (said : Option Statement) (came : List ℕ) : Type 0 where
+  pub statement : Statement
+  pub stated : said ≡ Some statement
+  pub other : is_stated (outcome w step) statement ≡ false
+  pub is : came_text (outcome w step) ≡ came
 
 -- the step of which the line tells is allowed, and comes to this and not to what it states
 pub record Differs (w : Rehearsal) (p : ℕ) (line : LogLine) (came : List ℕ) : Type 0 where
@@ -76,7 +77,7 @@ line_fault_of (Line fault) = fault
 line_fault_of (CameTo p came) = NotSo p
 
 -- this is what its member's step came to, which is something else than is stated
-abbrev pub IsOutcome : Rehearsal → Step → Option (List ℕ) → OwnFault → Type 0
+abbrev pub IsOutcome : Rehearsal → Step → Option Statement → OwnFault → Type 0
 IsOutcome w step said (Line fault) = ⊥
 IsOutcome w step said (CameTo p came) = (p ≡ actor step) × IsOther w step said came
 

@@ -11,7 +11,7 @@ use crate::expecting::expected;
 use crate::full_name::FullName;
 use crate::log_act::LogAct;
 use crate::log_line::LogLine;
-use ct_grammar::{Act, Carried, Line, Misfit, Pick, Play, Text, Who, line_of, text_in};
+use ct_grammar::{Act, Carried, Line, Misfit, Pick, Play, Statement, Who, line_of, text_in};
 use ct_names::Member;
 use std::alloc::{AllocError, Global};
 
@@ -118,7 +118,7 @@ fn entry_of(line: Result<Line, Misfit>) -> Result<Entry, NoEntry>
 }
 
 // What the member did, and what that came to, where it is stated.
-fn told(member: Member, act: Act, said: Option<Text>) -> Result<Entry, NoEntry>
+fn told(member: Member, act: Act, said: Option<Statement>) -> Result<Entry, NoEntry>
     ensures { result ≡ told member act said }
 {
     let same = act;

@@ -5,14 +5,14 @@ ghost use Rattle.ct_merge.specs.Proposers.{act_in, line_in, name_in, sender_in};
 
 use crate::full_name::FullName;
 use crate::log_act::LogAct;
-use ct_grammar::{Carried, Text};
+use ct_grammar::{Carried, Statement};
 use ct_names::{Group, Member};
 
 /// A line of a member's log: what it did, and what that came to, where it is stated.
 #[derive(Drop)]
 pub struct LogLine {
     pub act: LogAct,
-    pub said: Option<Text>,
+    pub said: Option<Statement>,
     /// The act receives a proposal that is named without its sender: 0 stands there until the group is known.
     pub lacks_sender: bool,
 }

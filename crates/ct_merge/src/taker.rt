@@ -8,7 +8,7 @@ ghost use Rattle.ct_world.specs.Setup.{record_of};
 ghost use Rattle.ct_play.specs.Faults.{UnlessShort, is_short};
 ghost use Rattle.ct_merge.specs.Merging.{step_of, IsLater, IsReady, IsSerialOf, IsTakenTo, IsThereFor, LeavesAll, LeavesOthers, Takes};
 ghost use Rattle.ct_merge.specs.Names.{IsSentAs};
-ghost use Rattle.ct_play.specs.Stating.{is_stated, stated_text};
+ghost use Rattle.ct_play.specs.Outcomes.{is_stated, outcome};
 ghost use Rattle.ct_merge.specs.Stops.{IsFaultAt, IsOutcome, IsRefusedBy, IsStuck, IsStuckIn, line_fault_of};
 ghost use Rattle.ct_merge.specs.Waits.{IsUnsent, WaitsIn};
 
@@ -16,10 +16,10 @@ use crate::full_name::FullName;
 use crate::log_act::LogAct;
 use crate::log_line::LogLine;
 use crate::own_fault::OwnFault;
-use ct_grammar::{Pick, Text};
+use ct_grammar::{Pick, Statement, Text};
 use ct_model::Step;
 use ct_names::{Member, Refusal, Serial};
-use ct_play::{LineFault, Stage, is_stated, push_stated, repeated};
+use ct_play::{LineFault, Stage, is_stated, outcome, push_came, repeated};
 use ct_world::{Setup, World};
 use std::alloc::Global;
 use std::marker::Model;
@@ -202,21 +202,21 @@ impl Taker {
     }
 
     // What the step came to is what is stated of it, if something is.
-    fn compare(&self, step: Step, said: &Option<Text>) -> Result<(), OwnFault>
-        ensures so { OnOk result (IfSome said.now (λ text. is_stated (stated_text self.now step) text ≡ true)) }
+    fn compare(&self, step: Step, said: &Option<Statement>) -> Result<(), OwnFault>
+        ensures so { OnOk result (IfSome said.now (λ statement. is_stated (outcome self.now step) statement ≡ true)) }
         ensures other { IfErr result (λ fault. UnlessShort (is_short (line_fault_of fault))
             (IsOutcome self.now step said.now fault)) }
     {
         let Some(said) = said else {
             return Ok(());
         };
-        let mut text = String::new(self.alloc);
-        push_stated(&mut text, self.stage.world(), step)?;
-        if is_stated(text.as_str(), said.as_str()) {
-            Ok(())
-        } else {
-            Err(OwnFault::CameTo(step.member(), Text::new(text)))
+        let came = outcome(self.stage.world(), step);
+        if is_stated(came, said) {
+            return Ok(());
         }
+        let mut text = String::new(self.alloc);
+        push_came(&mut text, came)?;
+        Err(OwnFault::CameTo(step.member(), Text::new(text)))
     }
 
     // Takes the step.

@@ -5,6 +5,7 @@ use Rattle.ct_grammar.specs.declared.act.Act.{Act}
 use Rattle.ct_grammar.specs.declared.act.Act.TheVariants as act
 use Rattle.ct_grammar.specs.declared.play.Play.{Play}
 use Rattle.ct_grammar.specs.declared.play.Play.TheVariants as play
+use Rattle.ct_grammar.specs.declared.statement.Statement.{Statement}
 use Rattle.ct_grammar.specs.declared.who.Who.{Who}
 use Rattle.std.proofs.Math.Nat.{mul-le-mul_right}
 use Rattle.std.proofs.lemmas.List.{take_all}
@@ -50,8 +51,8 @@ pub step_taken : (s : Played) (p : ℕ) (a : Act) (step : Step) (t : Played) →
     IsTaken s p a t
 step_taken s p a step t of here = inr (ap (λ r. go_on r (after_step s)) of ∙ here)
 
-pub none_said : (who : Who) (a : Act) (text : List ℕ) (s : Played) (ps : List ℕ) (t : Played) → t ≡ s → IsSaidByFirst who a text s ps t
-none_said who a text s ps t e = record { members = 0; few = omega arith; before = s; is = refl; next = inl e }
+pub none_said : (who : Who) (a : Act) (said : Statement) (s : Played) (ps : List ℕ) (t : Played) → t ≡ s → IsSaidByFirst who a said s ps t
+none_said who a said s ps t e = record { members = 0; few = omega arith; before = s; is = refl; next = inl e }
 
 -- what acts leave
 pub ruleset done_parts = (none_done, on_err)
@@ -120,7 +121,7 @@ pub ruleset rested_parts = (part_turned, last_turned, part_longer, on_err)
 
 pub none_played : (s : Played) (p : Play) (t : Played) → t ≡ s → IsPartOf s p t
 none_played s (play.Act who a) t e = none_done who a s (named s.rehearsal.setting.members who) t e
-none_played s (play.Stated who a text) t e = none_said who a text s (named s.rehearsal.setting.members who) t e
+none_played s (play.Stated who a said) t e = none_said who a said s (named s.rehearsal.setting.members who) t e
 none_played s (play.Turns who n set) t e = none_turned (play.Turns who n set) (named s.rehearsal.setting.members who) s n t e
 none_played s (play.Settle who set) t e = none_turned (play.Settle who set) (named s.rehearsal.setting.members who) s _ t e
 none_played s (play.Until who set goal) t e = none_turned (play.Until who set goal) (named s.rehearsal.setting.members who) s _ t e

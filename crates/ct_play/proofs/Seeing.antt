@@ -1,7 +1,7 @@
 -- What terms come to, one step more at a time.
 use Rattle.std.proofs.Common.{◌≡◌, ℕ, zero, suc, ◌+◌, ◌<◌, ◌≤◌, Bool, List, [], ◌∷◌, ◌++◌, Option, Some, ap, sym, ◌∙◌, refl, arith, add-one}
 use Rattle.std.proofs.Common.{get_or, length, length-append}
-use Rattle.std.specs.Prelude.{◌&&◌, ◌||◌, map}
+use Rattle.std.specs.Prelude.{◌&&◌, ◌||◌}
 use Rattle.std.specs.List.{list_all, zip}
 use Rattle.std.proofs.lemmas.Grind.{take_at_read}
 use Rattle.std.proofs.lemmas.List.{take-append-le}
@@ -86,11 +86,6 @@ looks_more s step (t ∷ ts) =
     ap (λ b. b ∷ looked_at (with_step s step) (length ts) ts (looks_of s ts)) (sym (come_more t.when s step t))
     ∙ ap (λ l. come_to t.when (with_step s step) t ∷ l) (looks_more s step ts)
 
-none_seen : (s : Played) (t : Term) → s.rehearsal.steps ≡ [] → holds_at s t ≡ was_seen s t (length s.rehearsal.steps)
-none_seen s t e =
-    let n : 0 ≡ length s.rehearsal.steps = sym (ap length e) in
-    ap (λ u. holds_at u t) (sym (whole_part s (first_part s 0) 0 n refl)) ∙ (sym (seen_first s t) ∙ ap (was_seen s t) n)
-
 -- the same of the terms and the looks by other names
 pub looks_stepped : (s t : Played) (step : Step) (ts us : List Term) (old new : List Bool) → us ≡ ts → t ≡ with_step s step →
     old ≡ looks_of s ts → new ≡ looked_at t (length us) us old → new ≡ looks_of t ts
@@ -100,17 +95,6 @@ looks_stepped s t step ts us old new of taken before here =
     ∙ (ap (looked_at t (length ts) ts) before
     ∙ (ap (λ (u : Played). looked_at u (length ts) ts (looks_of s ts)) taken
     ∙ (looks_more s step ts ∙ ap (λ (u : Played). looks_of u ts) (sym taken)))))
-
-come_first : (when : When) (s : Played) (t : Term) → s.rehearsal.steps ≡ [] → holds_at s t ≡ come_to when s t
-come_first Now s t e = refl
-come_first Ever s t e = none_seen s t e
-come_first Never s t e = none_seen s t e
-
--- where there are no steps
-pub looks_first : (s : Played) (ts : List Term) → s.rehearsal.steps ≡ [] → map (holds_at s) ts ≡ looks_of s ts
-looks_first s [] e = refl
-looks_first s (t ∷ ts) e =
-    ap (λ b. b ∷ map (holds_at s) ts) (come_first t.when s t e) ∙ ap (λ l. come_to t.when s t ∷ l) (looks_first s ts e)
 
 -- ---- one term after another
 

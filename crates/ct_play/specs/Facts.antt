@@ -1,6 +1,6 @@
 -- What facts say of members, and what is there.
-use Rattle.std.specs.Prelude.{ℕ, zero, suc, ◌+◌, ◌==◌, Bool, true, false, not, ◌&&◌, List, [], ◌∷◌, codes, decimal, length, Option, Some, None}
-use Rattle.std.specs.Prelude.{is_none, is_some, option_map, unwrap_or, Result, Ok, Err, if◌then◌else◌}
+use Rattle.std.specs.Prelude.{ℕ, zero, suc, ◌+◌, ◌==◌, Bool, true, false, not, ◌&&◌, List, [], ◌∷◌, codes, decimal, length, Option, Some}
+use Rattle.std.specs.Prelude.{None, is_none, is_some, option_map, unwrap_or, Result, Ok, Err, if◌then◌else◌}
 use Rattle.std.specs.List.{concat, list_all, list_any, zip}
 use Rattle.std.specs.Option.{option_map_or}
 use Rattle.std.specs.Str.{bytes_eq}
@@ -27,8 +27,8 @@ use Rattle.ct_text.specs.Standing.{estimate_of}
 use Rattle.ct_text.specs.Shapes.{phase_text}
 use Rattle.ct_grammar.specs.contracts.reason.ReasonPartialEq.TheImpl.{ghosts as reasons}
 use Rattle.ct_grammar.specs.declared.claim.Name.{Name}
-use Rattle.ct_grammar.specs.declared.decision.Decision.{Decision}
-use Rattle.ct_grammar.specs.declared.estimate.Estimate.{Estimate}
+use Rattle.ct_grammar.specs.declared.reports.decision.Decision.{Decision}
+use Rattle.ct_grammar.specs.declared.reports.estimate.Estimate.{Estimate}
 use Rattle.ct_grammar.specs.declared.fact.Fact.{Fact}
 use Rattle.ct_grammar.specs.declared.fact.Fact.TheVariants.{Up, Crashed, Idle, Instance, Round, Phase as InPhase}
 use Rattle.ct_grammar.specs.declared.fact.Fact.TheVariants.{Received, Decided, Delivered, Table, Refuses}
@@ -130,6 +130,10 @@ wanted (Refuses act reason) = concat (codes "refuses " ∷ reason_text reason �
 wanted (May act) = codes "allowed"
 wanted (Waits pick) = codes "waits"
 wanted fact = fact_text fact
+
+-- the name of the message
+abbrev pub the_name : Message → Name
+the_name m = record { origin = m.origin; number = m.number }
 
 -- the message has this name
 abbrev pub is_named : Name → Message → Bool

@@ -6,6 +6,7 @@ pub mod Facts
 pub mod Faults
 pub mod Goals
 pub mod Indexing
+pub mod Outcomes
 pub mod Parts
 pub mod Picking
 pub mod Played

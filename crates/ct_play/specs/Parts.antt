@@ -4,6 +4,7 @@ use Rattle.ct_grammar.specs.declared.act.Act.{Act}
 use Rattle.ct_grammar.specs.declared.act.Act.TheVariants.{LoseFrom}
 use Rattle.ct_grammar.specs.declared.play.Play.{Play}
 use Rattle.ct_grammar.specs.declared.play.Play.TheVariants.{Act as ByAct, Stated, Turns, Settle, Until}
+use Rattle.ct_grammar.specs.declared.statement.Statement.{Statement}
 use Rattle.ct_grammar.specs.declared.who.Who.{Who}
 use Rattle.ct_play.specs.Acting.{after_losses, after_step, done_by_each, go_on, step_of}
 use Rattle.ct_play.specs.Picking.{waiting_from}
@@ -43,11 +44,11 @@ abbrev pub IsTaken : Played → ℕ → Act → Played → Type 0
 IsTaken s p act t = (t ≡ s) ⊎ (go_on (step_of s.rehearsal p act) (after_step s) ≡ Ok t)
 
 -- the first of these members did it and it came to this, and the next one took its step at most
-pub record IsSaidByFirst (who : Who) (act : Act) (text : List ℕ) (s : Played) (ps : List ℕ) (t : Played) : Type 0 where
+pub record IsSaidByFirst (who : Who) (act : Act) (said : Statement) (s : Played) (ps : List ℕ) (t : Played) : Type 0 where
   pub members : ℕ
   pub few : members ≤ length ps
   pub before : Played
-  pub is : done_so_by_each who act text s (take members ps) ≡ Ok before
+  pub is : done_so_by_each who act said s (take members ps) ≡ Ok before
   pub next : IsTaken before (get_or ps members 0) act t
 
 -- some rounds were made, and the first members made their turns of the next one; these are no more than those of n rounds
@@ -61,7 +62,7 @@ pub record IsTurnedPart (play : Play) (ps : List ℕ) (s : Played) (n : ℕ) (t 
 -- the record is the old one and the line's steps up to some of them; a line of one step leaves none
 abbrev pub IsPartOf : Played → Play → Played → Type 0
 IsPartOf s (ByAct who act) t = IsDoneByFirst who act s (named s.rehearsal.setting.members who) t
-IsPartOf s (Stated who act text) t = IsSaidByFirst who act text s (named s.rehearsal.setting.members who) t
+IsPartOf s (Stated who act said) t = IsSaidByFirst who act said s (named s.rehearsal.setting.members who) t
 IsPartOf s (Turns who n set) t = IsTurnedPart (Turns who n set) (named s.rehearsal.setting.members who) s n t
 IsPartOf s (Settle who set) t = IsTurnedPart (Settle who set) (named s.rehearsal.setting.members who) s MOST_ROUNDS t
 IsPartOf s (Until who set goal) t = IsTurnedPart (Until who set goal) (named s.rehearsal.setting.members who) s MOST_ROUNDS t

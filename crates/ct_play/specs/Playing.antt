@@ -31,7 +31,7 @@ asked s Limits = Ok s
 -- what a line comes to
 abbrev pub played : Played → Play → Result Played LineFault
 played s (Act who act) = acted s who act
-played s (Stated who act text) = stated s who act text
+played s (Stated who act said) = stated s who act said
 played s (Turns who n set) = turned s (Turns who n set) who n
 played s (Settle who set) = settled s (Settle who set) who
 played s (Until who set goal) = reached s (Until who set goal) who goal

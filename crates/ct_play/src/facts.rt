@@ -110,7 +110,7 @@ fn are_named(names: &Names, list: &[Message]) -> bool
     names.len() == list.len() && each_named(names, list)
 }
 
-fn each_named(names: &[Name], list: &[Message]) -> bool
+pub(crate) fn each_named(names: &[Name], list: &[Message]) -> bool
     ensures { result ≡ list_all (λ pair. is_named pair.0 pair.1) (zip names.now list.now) }
 {
     names
@@ -120,7 +120,7 @@ fn each_named(names: &[Name], list: &[Message]) -> bool
 }
 
 // Whether the message has one of these names.
-fn is_among(names: &[Name], message: &Message) -> bool
+pub(crate) fn is_among(names: &[Name], message: &Message) -> bool
     ensures { result ≡ is_among names.now message.now }
 {
     names.iter().any(|name| is_named(*name, message))

@@ -164,21 +164,6 @@ pub(crate) fn terms<'g>(goal: Option<&'g Goal>) -> &'g [Term]
     }
 }
 
-// What each term says of the stage.
-pub(crate) fn first_looks(
-    alloc: Global,
-    stage: &Stage,
-    terms: &[Term],
-) -> Result<Vec<bool>, AllocError>
-    ensures { IfOk result (λ looks. looks.items ≡ map (holds_at stage.now) terms.now) }
-{
-    let mut looks = Vec::new(alloc);
-    for term in terms {
-        looks.push(holds_at(stage, term))?;
-    }
-    Ok(looks)
-}
-
 // Looks at each term on the stage of one step more. What was so once is not looked at again.
 pub(crate) fn look_again(stage: &Stage, terms: &[Term], looks: &mut Vec<bool>)
     requires { length looks.old.items ≡ length terms.now }

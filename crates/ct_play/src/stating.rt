@@ -6,23 +6,18 @@ ghost use Rattle.ct_play.specs.Acting.{done_by_each};
 ghost use Rattle.ct_play.specs.Faults.{IsFaultOf};
 ghost use Rattle.ct_play.specs.Parts.{IsSaidByFirst, IsTaken};
 ghost use Rattle.ct_play.specs.Played.{IsLater};
-ghost use Rattle.ct_play.specs.Stating.{before, came_to, carried_text, done_so, done_so_by, done_so_by_each};
-ghost use Rattle.ct_play.specs.Stating.{envelope_text, is_estimate_in, is_stated, load_text, or_dash, outcome_at, outcome_in_turn};
-ghost use Rattle.ct_play.specs.Stating.{outcome_text, stated, stated_text, unless_other};
+ghost use Rattle.ct_play.specs.Stating.{before, came_to, done_so, done_so_by, done_so_by_each, or_dash, outcome_at, outcome_in_turn};
+ghost use Rattle.ct_play.specs.Stating.{stated, unless_other};
 ghost use Rattle.ct_play.specs.Who.{named};
 
 use crate::acting::{act_each, step_of, take};
 use crate::line_fault::LineFault;
 use crate::naming::named;
+use crate::outcomes::{is_stated, outcome, push_came};
 use crate::stage::Stage;
-use ct_grammar::{Act, Text, Who};
+use ct_grammar::{Act, Statement, Who};
 use ct_model::Step;
-use ct_names::{Member, Message, Serial};
-use ct_print::push_command;
-use ct_text::{
-    instance_of, push_batch, push_estimate_alone, push_estimate_of, push_set, push_value,
-};
-use ct_world::{Letter, Wire, World};
+use ct_names::Member;
 use std::alloc::{AllocError, Global};
 
 // ---- lines
@@ -34,7 +29,7 @@ pub(crate) fn state(
     stage: &mut Stage,
     who: &Who,
     act: &Act,
-    said: &Text,
+    said: &Statement,
 ) -> Result<(), LineFault>
     ensures ok { OnOk result (stated stage.old who.now act.now said.now ≡ Ok stage.new) }
     ensures err { IfErr result (IsFaultOf (stated stage.old who.now act.now said.now)) }
@@ -51,7 +46,7 @@ fn state_each(
     stage: &mut Stage,
     who: &Who,
     act: &Act,
-    said: &Text,
+    said: &Statement,
     members: &[Member],
 ) -> Result<(), LineFault>
     ensures ok { OnOk result (done_so_by_each who.now act.now said.now stage.old members.now ≡ Ok stage.new) }
@@ -72,7 +67,7 @@ fn state_as(
     stage: &mut Stage,
     who: &Who,
     act: &Act,
-    said: &Text,
+    said: &Statement,
     member: Member,
 ) -> Result<(), LineFault>
     ensures ok { OnOk result (done_so_by who.now act.now said.now stage.old member ≡ Ok stage.new) }
@@ -92,7 +87,7 @@ fn state_one(
     alloc: Global,
     stage: &mut Stage,
     act: &Act,
-    said: &Text,
+    said: &Statement,
     member: Member,
 ) -> Result<(), LineFault>
     ensures ok { OnOk result (done_so act.now said.now stage.old member ≡ Ok stage.new) }
@@ -102,23 +97,15 @@ fn state_one(
 {
     let step = step_of(stage, member, *act)?;
     take(stage, step)?;
-    compare(alloc, stage, member, step, said)
+    compare(stage, member, step, said)
 }
 
 // The step came to this.
-fn compare(
-    alloc: Global,
-    stage: &Stage,
-    member: Member,
-    step: Step,
-    said: &Text,
-) -> Result<(), LineFault>
+fn compare(stage: &Stage, member: Member, step: Step, said: &Statement) -> Result<(), LineFault>
     ensures ok { OnOk result (unless_other member step said.now stage.now ≡ Ok stage.now) }
     ensures err { IfErr result (IsFaultOf (unless_other member step said.now stage.now)) }
 {
-    let mut text = String::new(alloc);
-    push_stated(&mut text, stage.world(), step)?;
-    if is_stated(text.as_str(), said.as_str()) {
+    if is_stated(outcome(stage.world(), step), said) {
         Ok(())
     } else {
         Err(LineFault::NotSo(member))
@@ -218,92 +205,6 @@ fn outcome_at(
     let step = step_of(stage, member, *act)?;
     take(stage, step)?;
     let mut text = String::new(alloc);
-    push_stated(&mut text, stage.world(), step)?;
+    push_came(&mut text, outcome(stage.world(), step))?;
     Ok(text)
-}
-
-// ---- what lines state of it
-
-/// Appends what the step came to, after which the world is this, as a line states it: of a conclusion the estimate with which the
-/// round is concluded.
-pub fn push_stated(text: &mut String, world: &World, step: Step) -> Result<(), AllocError>
-    ensures { OnOk result (Adds text.old text.new (stated_text world.now.rehearsal step)) }
-{
-    match step {
-        Step::Conclude(member) => push_estimate_alone(text, world, member),
-        _ => push_outcome(text, world, step),
-    }
-}
-
-/// Whether the text states what came out: the whole of it, or of an estimate and its ts the estimate alone.
-#[tactic(auto, unfolding(crate::specs::Stating::is_stated))]
-pub fn is_stated(came: &str, text: &str) -> bool
-    ensures { result ≡ is_stated came.now text.now }
-{
-    came == text || is_estimate_in(came.as_bytes(), text.as_bytes())
-}
-
-// Whether the text is an estimate, of which the ts stands behind it in what came out.
-#[tactic(auto, unfolding(crate::specs::Stating::is_estimate_in))]
-fn is_estimate_in(came: &[u8], text: &[u8]) -> bool
-    ensures { result ≡ is_estimate_in came.now text.now }
-{
-    came.starts_with(text) && came[text.len()..].starts_with(b" ts ")
-}
-
-// ---- what a step does
-
-/// Appends what the step came to, after which the world is this: what the envelope carries that it received; what it proposes, or
-/// sends, or keeps; the batch. Nothing of other steps.
-pub fn push_outcome(text: &mut String, world: &World, step: Step) -> Result<(), AllocError>
-    ensures { OnOk result (Adds text.old text.new (outcome_text world.now.rehearsal step)) }
-{
-    match step {
-        Step::Receive(_, serial) => push_carried(text, world, serial),
-        Step::Begin(member) => push_estimate_alone(text, world, member),
-        Step::Enter(member) => push_estimate_of(text, world, member),
-        Step::Choose(member, from) => push_value(text, world.heard_from(member, from)),
-        Step::Adopt(member) => push_estimate_of(text, world, member),
-        Step::Deliver(member) => push_batch(text, world, instance_of(world, member)),
-        Step::Follow(member) => push_batch(text, world, instance_of(world, member)),
-        _ => Ok(()),
-    }
-}
-
-// What the envelope of the serial carries.
-#[tactic(auto, unfolding(crate::specs::Stating::carried_text))]
-fn push_carried(text: &mut String, world: &World, serial: Serial) -> Result<(), AllocError>
-    ensures { OnOk result (Adds text.old text.new (carried_text world.now.rehearsal serial)) }
-{
-    let value = world.value(serial).unwrap_or(&[]);
-    push_envelope(text, world.letter(serial), value)
-}
-
-fn push_envelope(
-    text: &mut String,
-    letter: Option<Letter>,
-    value: &[Message],
-) -> Result<(), AllocError>
-    ensures { OnOk result (Adds text.old text.new (envelope_text letter value.now)) }
-{
-    match letter {
-        None => Ok(()),
-        Some(letter) => push_load(text, &letter.wire, value),
-    }
-}
-
-fn push_load(text: &mut String, wire: &Wire, value: &[Message]) -> Result<(), AllocError>
-    ensures { OnOk result (Adds text.old text.new (load_text wire.now value.now)) }
-{
-    match *wire {
-        Wire::Data(message) => push_command(text, message.command()),
-        Wire::Est { ts, .. } => {
-            push_set(text, value)?;
-            write!(text, " ts {ts}")
-        }
-        Wire::Prop { .. } => push_set(text, value),
-        Wire::Ack { .. } => Ok(()),
-        Wire::Nack { .. } => Ok(()),
-        Wire::Dec { .. } => push_set(text, value),
-    }
 }

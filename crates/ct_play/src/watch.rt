@@ -7,7 +7,7 @@ ghost use Rattle.ct_play.specs.Faults.{IsFaultOf};
 ghost use Rattle.ct_play.specs.Goals.{is_shown, uncut};
 ghost use Rattle.ct_play.specs.Played.{with_step};
 
-use crate::goals::{are_due, first_looks, look_again, terms};
+use crate::goals::{are_due, look_again, looks, terms};
 use crate::line_fault::LineFault;
 use crate::stage::Stage;
 use ct_grammar::Goal;
@@ -47,7 +47,7 @@ impl<'g> Watch<'g> {
         ensures err { IfErr result (λ fault. fault ≡ LineFault.OutOfMemory) }
     {
         let stage = Stage::new(alloc, setup)?;
-        let looks = first_looks(alloc, &stage, terms(goal))?;
+        let looks = looks(alloc, &stage, terms(goal))?;
         Ok(Watch { stage, goal, looks })
     }
 

@@ -1,13 +1,12 @@
 //! What members did behind the ends of their logs.
 
 use crate::receipts::Receipts;
-use crate::stated::{MessageName, command_in, first_beside, has, names, ts_in};
-use ct_grammar::Carried;
+use crate::stated::{command_in, first_beside, has, names, ts_in};
+use ct_grammar::{Carried, Name, Statement};
 use ct_merge::{FullName, LogAct, Merger, may_come, name_of, submitted};
 use ct_model::Step;
 use ct_names::{Command, Instance, Member, Round, Serial};
 use ct_world::{Wire, World};
-use std::alloc::{AllocError, Global};
 
 // Over how many members, one for the other, what is awaited is followed at most.
 const MAX_LINKS: u32 = 64;
@@ -40,7 +39,6 @@ pub(crate) enum Next {
 /// Logs that stand, and what they say that was received.
 #[derive(Clone, Copy)]
 pub(crate) struct Ends<'a> {
-    pub alloc: Global,
     pub merger: &'a Merger,
     pub receipts: &'a Receipts,
 }
@@ -57,15 +55,15 @@ impl<'a> Ends<'a> {
     }
 
     /// What a member did behind the end of its log, by which that comes nearer to be sent which the next line of another log awaits.
-    pub(crate) fn next(&self) -> Result<Option<(Member, LogAct)>, AllocError> {
+    pub(crate) fn next(&self) -> Option<(Member, LogAct)> {
         for i in 0..self.world().group().n() {
             if let Some(awaited) = self.awaited_by(i + 1) {
-                if let Some(found) = self.toward(awaited)? {
-                    return Ok(Some(found));
+                if let Some(found) = self.toward(awaited) {
+                    return Some(found);
                 }
             }
         }
-        Ok(None)
+        None
     }
 
     // What the next line of the member's log receives.
@@ -85,19 +83,19 @@ impl<'a> Ends<'a> {
     }
 
     // What a member did by which this comes nearer to be sent.
-    fn toward(&self, awaited: Awaited) -> Result<Option<(Member, LogAct)>, AllocError> {
+    fn toward(&self, awaited: Awaited) -> Option<(Member, LogAct)> {
         let mut awaited = awaited;
         for _ in 0..MAX_LINKS {
             if !self.is_lost(awaited) {
-                return Ok(None);
+                return None;
             }
-            match self.next_of(awaited)? {
-                Next::Did(act) => return Ok(Some((awaited.from, act))),
+            match self.next_of(awaited) {
+                Next::Did(act) => return Some((awaited.from, act)),
                 Next::Awaited(before) => awaited = before,
-                Next::Unknown => return Ok(None),
+                Next::Unknown => return None,
             }
         }
-        Ok(None)
+        None
     }
 
     /// Whether the log of the sender has ended, and the envelope may still come.
@@ -108,13 +106,10 @@ impl<'a> Ends<'a> {
     }
 
     // What the sender did next.
-    fn next_of(&self, awaited: Awaited) -> Result<Next, AllocError> {
+    fn next_of(&self, awaited: Awaited) -> Next {
         let Awaited { from, carried, .. } = awaited;
         match carried {
-            Carried::Data(origin, number) => self.next_to_pass(
-                from,
-                MessageName { origin, number },
-            ),
+            Carried::Data(origin, number) => self.next_to_pass(from, Name { origin, number }),
             Carried::Dec(instance, round) if self.coordinator(round) != from => {
                 self.decided_by(from, instance, round)
             }
@@ -130,21 +125,21 @@ impl<'a> Ends<'a> {
 
     // What the member did to send the message: it submitted its own, and received others; those that its next proposal leaves out
     // behind that.
-    fn next_to_pass(&self, from: Member, message: MessageName) -> Result<Next, AllocError> {
+    fn next_to_pass(&self, from: Member, message: Name) -> Next {
         if message.origin == from {
             return self.submission(from);
         }
         if let Some(instance) = self.unbegun_without(from, message) {
-            if let Next::Did(act) = self.beginning(from, instance)? {
-                return Ok(Next::Did(act));
+            if let Next::Did(act) = self.beginning(from, instance) {
+                return Next::Did(act);
             }
         }
-        let MessageName { origin, number } = message;
+        let Name { origin, number } = message;
         self.brought(from, Carried::Data(origin, number), origin)
     }
 
     // Its next message is submitted, with the command that is stated where it is received; with any one where nobody received it.
-    fn submission(&self, from: Member) -> Result<Next, AllocError> {
+    fn submission(&self, from: Member) -> Next {
         let before = u32::try_from(submitted(self.world(), from)).unwrap_or(u32::MAX);
         let carried = Carried::Data(from, before.saturating_add(1));
         let mut is_received = false;
@@ -156,38 +151,32 @@ impl<'a> Ends<'a> {
                     from: j + 1,
                 };
                 is_received = is_received || self.receipts.has(i + 1, name);
-                if let Some(text) = self.receipts.said(self.merger, i + 1, name) {
-                    if let Some(command) = command_in(self.alloc, text)? {
-                        return Ok(Next::Did(LogAct::Submit(command)));
-                    }
+                let said = self.receipts.said(self.merger, i + 1, name);
+                if let Some(command) = said.and_then(command_in) {
+                    return Next::Did(LogAct::Submit(command));
                 }
             }
         }
-        Ok(if is_received {
+        if is_received {
             Next::Unknown
         } else {
             Next::Did(LogAct::Submit(ANY))
-        })
+        }
     }
 
     /// It received this; where that was not sent to it, the origin sent it.
-    pub(crate) fn brought(
-        &self,
-        to: Member,
-        carried: Carried,
-        origin: Member,
-    ) -> Result<Next, AllocError> {
+    pub(crate) fn brought(&self, to: Member, carried: Carried, origin: Member) -> Next {
         if let Some(name) = self.waiting(to, carried) {
-            return Ok(Next::Did(LogAct::Receive(name)));
+            return Next::Did(LogAct::Receive(name));
         }
         match carried {
             Carried::Data(from, _) if from == to => self.submission(to),
-            _ if origin == to => Ok(Next::Unknown),
-            _ => Ok(Next::Awaited(Awaited {
+            _ if origin == to => Next::Unknown,
+            _ => Next::Awaited(Awaited {
                 from: origin,
                 to,
                 carried,
-            })),
+            }),
         }
     }
 
@@ -211,9 +200,9 @@ impl<'a> Ends<'a> {
     // ---- instances
 
     // What the member did next to take part in the instance.
-    fn next_in(&self, from: Member, instance: Instance) -> Result<Next, AllocError> {
+    fn next_in(&self, from: Member, instance: Instance) -> Next {
         match self.world().instance(from) {
-            None => Ok(Next::Unknown),
+            None => Next::Unknown,
             Some((last, true)) => {
                 if last >= instance || self.is_behind(from, last) {
                     self.next_in_round(from, last)
@@ -233,15 +222,10 @@ impl<'a> Ends<'a> {
     }
 
     // It received the decision that the round's coordinator made, behind what others received of it in the instance.
-    fn decided_by(
-        &self,
-        from: Member,
-        instance: Instance,
-        round: Round,
-    ) -> Result<Next, AllocError> {
+    fn decided_by(&self, from: Member, instance: Instance, round: Round) -> Next {
         if self.is_before(from, instance) {
-            if let Next::Did(act) = self.next_in(from, instance)? {
-                return Ok(Next::Did(act));
+            if let Next::Did(act) = self.next_in(from, instance) {
+                return Next::Did(act);
             }
         }
         self.brought(from, Carried::Dec(instance, round), self.coordinator(round))
@@ -259,18 +243,12 @@ impl<'a> Ends<'a> {
     }
 
     // It received the instance's decision, and closed the instance by this step; or it took part further.
-    fn closing(
-        &self,
-        from: Member,
-        instance: Instance,
-        step: Step,
-        act: LogAct,
-    ) -> Result<Next, AllocError> {
+    fn closing(&self, from: Member, instance: Instance, step: Step, act: LogAct) -> Next {
         if self.world().enabled(&step).is_ok() {
-            return Ok(Next::Did(act));
+            return Next::Did(act);
         }
         if let Some(name) = self.waiting_decision(from, instance) {
-            return Ok(Next::Did(LogAct::Receive(name)));
+            return Next::Did(LogAct::Receive(name));
         }
         if let Some(round) = self.receipts.decided(instance) {
             let coordinator = self.coordinator(round);
@@ -305,19 +283,19 @@ impl<'a> Ends<'a> {
     }
 
     // It began the instance, with the messages that it proposed as others received them.
-    fn beginning(&self, from: Member, instance: Instance) -> Result<Next, AllocError> {
+    fn beginning(&self, from: Member, instance: Instance) -> Next {
         let received = self.world().received(from).unwrap_or(&[]);
         match self.proposal(from, instance) {
-            Some(text) => match first_beside(text, received) {
-                Some(MessageName { origin, number }) => {
+            Some(said) => match first_beside(said, received) {
+                Some(Name { origin, number }) => {
                     self.brought(from, Carried::Data(origin, number), origin)
                 }
-                None => Ok(self.allowed(Step::Begin(from), LogAct::Begin)),
+                None => self.allowed(Step::Begin(from), LogAct::Begin),
             },
-            None => Ok(match self.world().enabled(&Step::Begin(from)) {
+            None => match self.world().enabled(&Step::Begin(from)) {
                 Ok(()) => Next::Did(LogAct::Begin),
                 Err(_) => self.any_message(from),
-            }),
+            },
         }
     }
 
@@ -327,7 +305,7 @@ impl<'a> Ends<'a> {
         for serial in self.world().waiting(member).unwrap_or(&[]) {
             if let Some(name) = name_of(self.merger.progress().stage(), *serial) {
                 if let Carried::Data(origin, number) = name.carried {
-                    if !has(received, MessageName { origin, number }) {
+                    if !has(received, Name { origin, number }) {
                         return Next::Did(LogAct::Receive(name));
                     }
                 }
@@ -338,19 +316,19 @@ impl<'a> Ends<'a> {
 
     // What is stated of the value that the member proposed in the instance, where others received that as its estimate; or else as what
     // it chose of its own first estimates.
-    fn proposal(&self, from: Member, instance: Instance) -> Option<&'a str> {
+    fn proposal(&self, from: Member, instance: Instance) -> Option<&'a Statement> {
         for before in 0..ROUNDS {
             let round = before + 1;
             let name = FullName {
                 carried: Carried::Est(instance, round),
                 from,
             };
-            if let Some(text) = self
+            if let Some(said) = self
                 .receipts
                 .said(self.merger, self.coordinator(round), name)
             {
-                return if ts_in(text) == Some(0) {
-                    Some(text)
+                return if ts_in(said) == Some(0) {
+                    Some(said)
                 } else {
                     None
                 };
@@ -363,11 +341,11 @@ impl<'a> Ends<'a> {
     }
 
     // The next instance of the member, where it has yet to begin that with a value that leaves the message out.
-    fn unbegun_without(&self, from: Member, message: MessageName) -> Option<Instance> {
+    fn unbegun_without(&self, from: Member, message: Name) -> Option<Instance> {
         let (last, is_open) = self.world().instance(from)?;
         let next = last.saturating_add(1);
-        let text = self.proposal(from, next)?;
-        if is_open || names(text, message) {
+        let said = self.proposal(from, next)?;
+        if is_open || names(said, message) {
             None
         } else {
             Some(next)

@@ -145,14 +145,14 @@ fn beyond(alloc: Global, setup: Setup, logs: Vec<Vec<LogLine>>) -> Result<Contin
     let same = setup;
     let merger = Merger::with_logs(alloc, setup, logs)?;
     let receipts = Receipts::new(alloc, same.group, &merger)?;
-    let continued = go_beyond(alloc, merger, &receipts);
+    let continued = go_beyond(merger, &receipts);
     drop(receipts);
     continued
 }
 
 // The same of logs that a merger has, by what they say that was received: takes lines, and one that is presumed, as long as that leads.
 #[tactic(auto, using(crate::proofs::GoingOn::going))]
-fn go_beyond(alloc: Global, merger: Merger, receipts: &Receipts) -> Result<Continued, LineFault>
+fn go_beyond(merger: Merger, receipts: &Receipts) -> Result<Continued, LineFault>
     ensures begun { IfOk result (λ it. AllBegin merger.logs it.logs.items) }
     ensures merged { IfOk result (λ it. IfSome it.run (λ world. IsMerge world.rehearsal it.logs.items)) }
     ensures setting { IfOk result (λ it. IfSome it.run (λ world. world.rehearsal.setting ≡ merger.setting)) }
@@ -170,7 +170,7 @@ fn go_beyond(alloc: Global, merger: Merger, receipts: &Receipts) -> Result<Conti
                 return Ok(Continued { run: None, logs });
             }
         };
-        if !presume_line(alloc, &mut growing, receipts)? {
+        if !presume_line(&mut growing, receipts)? {
             return ended(growing);
         }
     }
@@ -179,12 +179,12 @@ fn go_beyond(alloc: Global, merger: Merger, receipts: &Receipts) -> Result<Conti
 
 // Presumes one more line. Whether there is one that may be presumed.
 #[tactic(auto, using(crate::proofs::GoingOn::going))]
-fn presume_line(alloc: Global, merger: &mut Merger, receipts: &Receipts) -> Result<bool, AllocError>
+fn presume_line(merger: &mut Merger, receipts: &Receipts) -> Result<bool, AllocError>
     ensures begun { OnOk result (AllBegin merger.old.logs merger.new.logs) }
     ensures setting { merger.new.setting ≡ merger.old.setting }
     ensures cells { merger.new.cells ≡ merger.old.cells }
 {
-    let Some((member, act)) = next_line(alloc, merger, receipts)? else {
+    let Some((member, act)) = next_line(merger, receipts) else {
         return Ok(false);
     };
     if !merger.progress().stage().world().group().has(member) {
@@ -200,16 +200,8 @@ fn presume_line(alloc: Global, merger: &mut Merger, receipts: &Receipts) -> Resu
 }
 
 // A line that may be presumed, and whose it is.
-fn next_line(
-    alloc: Global,
-    merger: &Merger,
-    receipts: &Receipts,
-) -> Result<Option<(Member, LogAct)>, AllocError> {
-    let ends = Ends {
-        alloc,
-        merger,
-        receipts,
-    };
+fn next_line(merger: &Merger, receipts: &Receipts) -> Option<(Member, LogAct)> {
+    let ends = Ends { merger, receipts };
     ends.next()
 }
 

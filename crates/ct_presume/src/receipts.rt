@@ -1,6 +1,6 @@
 //! What logs say that members received.
 
-use ct_grammar::Carried;
+use ct_grammar::{Carried, Statement};
 use ct_merge::{FullName, LogAct, LogLine, Merger};
 use ct_names::{Group, Instance, MAX_MEMBERS, Member, Round};
 use indexmap::IndexMap;
@@ -139,24 +139,15 @@ impl Receipts {
         merger: &'l Merger,
         member: Member,
         name: FullName,
-    ) -> Option<&'l str> {
+    ) -> Option<&'l Statement> {
         let place = self.places.get(&Receipt { member, name }).copied()?;
         said_at(merger.log(member), place)
     }
 }
 
 // What is stated by the line at this place.
-fn said_at(log: &[LogLine], place: usize) -> Option<&str> {
-    match log.get(place) {
-        Some(
-            LogLine {
-                act: _,
-                said: Some(text),
-                lacks_sender: _,
-            },
-        ) => Some(text.as_str()),
-        _ => None,
-    }
+fn said_at(log: &[LogLine], place: usize) -> Option<&Statement> {
+    log.get(place)?.said.as_ref()
 }
 
 // Puts the value in its place.

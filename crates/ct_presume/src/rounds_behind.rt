@@ -3,13 +3,12 @@
 use crate::ends::{Awaited, Ends, Next, ROUNDS};
 use crate::receipts::{ENDED, ENTERED, PROPOSED, REPLIED, stage_of};
 use crate::stated::ts_in;
-use ct_grammar::Carried;
+use ct_grammar::{Carried, Statement};
 use ct_merge::{FullName, LogAct};
 use ct_model::{Phase, Step};
 use ct_names::{Instance, Member, Round, Serial};
-use ct_play::push_outcome;
+use ct_play::{is_stated, outcome};
 use ct_world::Wire;
-use std::alloc::AllocError;
 
 impl<'a> Ends<'a> {
     /// Whether others received something of the member in its open instance that it has yet to send.
@@ -27,14 +26,10 @@ impl<'a> Ends<'a> {
     }
 
     /// What the member did next in its open instance.
-    pub(crate) fn next_in_round(
-        &self,
-        from: Member,
-        instance: Instance,
-    ) -> Result<Next, AllocError> {
+    pub(crate) fn next_in_round(&self, from: Member, instance: Instance) -> Next {
         match self.world().round(from) {
-            None => Ok(Next::Unknown),
-            Some((_, Phase::Rest)) => Ok(self.allowed(Step::Enter(from), LogAct::Enter)),
+            None => Next::Unknown,
+            Some((_, Phase::Rest)) => self.allowed(Step::Enter(from), LogAct::Enter),
             Some((round, Phase::Gather)) => self.choice(from, instance, round),
             Some((round, Phase::Wait)) => self.reply(from, instance, round),
             Some((round, Phase::Tally)) => self.conclusion(from, instance, round),
@@ -44,12 +39,12 @@ impl<'a> Ends<'a> {
     // ---- choices
 
     // It chose an estimate of the value that others received as its proposal, or heard one more.
-    fn choice(&self, from: Member, instance: Instance, round: Round) -> Result<Next, AllocError> {
+    fn choice(&self, from: Member, instance: Instance, round: Round) -> Next {
         let said = self.proposed(from, instance, round);
         for i in 0..self.world().group().n() {
             let step = Step::Choose(from, i + 1);
-            if self.world().enabled(&step).is_ok() && self.fits(step, said)? {
-                return Ok(Next::Did(LogAct::Choose(i + 1)));
+            if self.world().enabled(&step).is_ok() && self.fits(step, said) {
+                return Next::Did(LogAct::Choose(i + 1));
             }
         }
         self.estimate(from, instance, round, said)
@@ -61,27 +56,25 @@ impl<'a> Ends<'a> {
         from: Member,
         instance: Instance,
         round: Round,
-    ) -> Option<&'a str> {
+    ) -> Option<&'a Statement> {
         let name = FullName {
             carried: Carried::Prop(instance, round),
             from,
         };
         for i in 0..self.world().group().n() {
-            if let Some(text) = self.receipts.said(self.merger, i + 1, name) {
-                return Some(text);
+            if let Some(said) = self.receipts.said(self.merger, i + 1, name) {
+                return Some(said);
             }
         }
         None
     }
 
-    // Whether the step comes to a text that begins so.
-    fn fits(&self, step: Step, said: Option<&str>) -> Result<bool, AllocError> {
-        let Some(said) = said else {
-            return Ok(true);
-        };
-        let mut text = String::new(self.alloc);
-        push_outcome(&mut text, self.world(), step)?;
-        Ok(text.as_str().as_bytes().starts_with(said.as_bytes()))
+    // Whether the step comes to what is stated, if something is.
+    fn fits(&self, step: Step, said: Option<&Statement>) -> bool {
+        match said {
+            None => true,
+            Some(said) => is_stated(outcome(self.world(), step), said),
+        }
     }
 
     // It heard an estimate that waits at it: of the value, if there is one, else with the least ts; or one that was not sent yet.
@@ -90,8 +83,8 @@ impl<'a> Ends<'a> {
         from: Member,
         instance: Instance,
         round: Round,
-        said: Option<&str>,
-    ) -> Result<Next, AllocError> {
+        said: Option<&Statement>,
+    ) -> Next {
         let carried = Carried::Est(instance, round);
         let mut least: Option<(Round, FullName)> = None;
         for i in 0..self.world().group().n() {
@@ -100,8 +93,8 @@ impl<'a> Ends<'a> {
                 from: i + 1,
             };
             if let Some(serial) = self.waits(from, name) {
-                if said.is_some() && self.fits(Step::Receive(from, serial), said)? {
-                    return Ok(Next::Did(LogAct::Receive(name)));
+                if said.is_some() && self.fits(Step::Receive(from, serial), said) {
+                    return Next::Did(LogAct::Receive(name));
                 }
                 let ts = self.ts(serial);
                 if least.is_none_or(|(other, _)| ts < other) {
@@ -109,10 +102,10 @@ impl<'a> Ends<'a> {
                 }
             }
         }
-        Ok(match least {
+        match least {
             Some((_, name)) => Next::Did(LogAct::Receive(name)),
             None => self.lost(from, carried),
-        })
+        }
     }
 
     // The ts of the estimate of the serial.
@@ -144,18 +137,18 @@ impl<'a> Ends<'a> {
     // ---- replies
 
     // It took the proposal over, or suspected the coordinator, as others received it.
-    fn reply(&self, from: Member, instance: Instance, round: Round) -> Result<Next, AllocError> {
+    fn reply(&self, from: Member, instance: Instance, round: Round) -> Next {
         if self.world().enabled(&Step::Adopt(from)).is_ok() {
-            return Ok(Next::Did(LogAct::Adopt));
+            return Next::Did(LogAct::Adopt);
         }
         let coordinator = self.coordinator(round);
         let proposal = Carried::Prop(instance, round);
         match self.took_over(from, instance, round) {
             Some(true) => self.brought(from, proposal, coordinator),
-            Some(false) => Ok(self.allowed(Step::Suspect(from), LogAct::Suspect)),
-            None => match self.brought(from, proposal, coordinator)? {
-                Next::Did(act) => Ok(Next::Did(act)),
-                _ => Ok(self.allowed(Step::Suspect(from), LogAct::Suspect)),
+            Some(false) => self.allowed(Step::Suspect(from), LogAct::Suspect),
+            None => match self.brought(from, proposal, coordinator) {
+                Next::Did(act) => Next::Did(act),
+                _ => self.allowed(Step::Suspect(from), LogAct::Suspect),
             },
         }
     }
@@ -186,11 +179,11 @@ impl<'a> Ends<'a> {
                 carried: Carried::Est(instance, later),
                 from,
             };
-            if let Some(text) = self
+            if let Some(said) = self
                 .receipts
                 .said(self.merger, self.coordinator(later), name)
             {
-                let ts = ts_in(text)?;
+                let ts = ts_in(said)?;
                 return if ts > round { None } else { Some(ts == round) };
             }
         }
@@ -200,33 +193,28 @@ impl<'a> Ends<'a> {
     // ---- conclusions
 
     // It concluded, or got one more reply; where others received the round's decision, acks until a majority took the proposal over.
-    fn conclusion(
-        &self,
-        from: Member,
-        instance: Instance,
-        round: Round,
-    ) -> Result<Next, AllocError> {
+    fn conclusion(&self, from: Member, instance: Instance, round: Round) -> Next {
         let decides = self.is_decided(instance, round);
         if self.world().enabled(&Step::Conclude(from)).is_ok()
             && (!decides || self.is_acked(from))
         {
-            return Ok(Next::Did(LogAct::Conclude));
+            return Next::Did(LogAct::Conclude);
         }
         let ack = Carried::Ack(instance, round);
         let nack = Carried::Nack(instance, round);
         if let Some(name) = self.waiting(from, ack) {
-            return Ok(Next::Did(LogAct::Receive(name)));
+            return Next::Did(LogAct::Receive(name));
         }
         if decides {
-            return Ok(self.lost(from, ack));
+            return self.lost(from, ack);
         }
         if let Some(name) = self.waiting(from, nack) {
-            return Ok(Next::Did(LogAct::Receive(name)));
+            return Next::Did(LogAct::Receive(name));
         }
-        Ok(match self.lost(from, nack) {
+        match self.lost(from, nack) {
             Next::Unknown => self.lost(from, ack),
             next => next,
-        })
+        }
     }
 
     // Whether a majority took its proposal over.

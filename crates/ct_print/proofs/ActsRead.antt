@@ -74,7 +74,8 @@ command_back (Add r v) what words h = rw (operands_back r max_u64 v _ words h.0 
 
 -- ---- envelopes
 
-message_back : (o n : ℕ) (words : List Word) → (o ≤ max_u8) × (n ≤ max_u32) → message_first (message_word o n ∷ words) ≡ Ok (Data o n, words)
+message_back : (o n : ℕ) (words : List Word) → (o ≤ max_u8) × (n ≤ max_u32) →
+    message_first (message_word o n ∷ words) ≡ Ok (Data o n, words)
 unfolding message_first message_word
 message_back o n words h = rw (two_back 46 max_u8 max_u32 o n refl (omega arith) (omega arith) h.0 h.1) refl
 

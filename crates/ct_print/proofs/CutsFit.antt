@@ -156,4 +156,5 @@ whole_named = record {
 pub cut_fits : (words : List Word) → Gives (cut_of words) IsCut
 unfolding cut_of
 cut_fits words Q k =
-    ok_weaker _ _ (with_sets whole words) (sets_on words whole whole_named) (λ sides h. k sides (record { sixteen = h.0.sixteen; named = h.0.named; some = h.1 }))
+    ok_weaker _ _ (with_sets whole words) (sets_on words whole whole_named)
+    (λ sides h. k sides (record { sixteen = h.0.sixteen; named = h.0.named; some = h.1 }))

@@ -13,7 +13,7 @@ use Rattle.ct_grammar.specs.Reasons.{full_of, step_reason, reason_of}
 use Rattle.ct_grammar.specs.Reports.{decisions_of, estimate_of, messages_of, table_of}
 use Rattle.ct_grammar.specs.Words.{Word}
 use Rattle.ct_print.specs.Writable.{IsSet, PickFits, ActFits, FactFits, IsRules}
-use Rattle.ct_print.proofs.Readable.{either, some_either, mapped, steps, May, Gives, AreWords, pick_fits}
+use Rattle.ct_print.proofs.Readable.{either, some_either, mapped, steps, May, Gives, pick_fits}
 use Rattle.ct_print.proofs.Readable.{act_fits, members_are_set}
 use Rattle.ct_print.proofs.ReportsFit.{alone_fits, messages_fit, decisions_fit, table_fits, estimate_fits}
 
@@ -50,13 +50,13 @@ reason_fits (word ∷ words) Q k = search (steps, reason_rules) depth 7
 
 -- ---- facts
 
-act_alone_fits : (words : List Word) → AreWords words → Gives (lone_act words) ActFits
+act_alone_fits : (words : List Word) → Gives (lone_act words) ActFits
 unfolding lone_act ended
-act_alone_fits words g Q k = search (steps, act_fits) depth 7
+act_alone_fits words Q k = search (steps, act_fits) depth 7
 
-pick_alone_fits : (words : List Word) → AreWords words → Gives (lone_pick words) PickFits
+pick_alone_fits : (words : List Word) → Gives (lone_pick words) PickFits
 unfolding lone_pick
-pick_alone_fits words g Q k = search (steps, pick_fits) depth 7
+pick_alone_fits words Q k = search (steps, pick_fits) depth 7
 
 set_or_dash_fits : (word : Word) → May (set_or_dash word) IsSet
 unfolding set_or_dash members
@@ -68,25 +68,25 @@ unfolding lone_set
 set_alone_fits [] Q k = tt
 set_alone_fits (word ∷ words) Q k = search (steps, set_or_dash_fits) depth 7
 
-refused_fits : (words : List Word) → AreWords words → IfOk (refusal_of words) FactFits
+refused_fits : (words : List Word) → IfOk (refusal_of words) FactFits
 unfolding refusal_of
-refused_fits words g = search (steps, act_fits, reason_fits) depth 7
+refused_fits words = search (steps, act_fits, reason_fits) depth 7
 
 any_fits : {A E : Type 0} (r : Result A E) → IfOk r (λ x. Unit {0})
 any_fits (Ok x) = tt
 any_fits (Err e) = tt
 
-plain_fits : (name : Word) (words : List Word) → AreWords words → IfOk (number_fact name words) FactFits
+plain_fits : (name : Word) (words : List Word) → IfOk (number_fact name words) FactFits
 unfolding number_fact act_fact short_fact
-plain_fits name words g =
+plain_fits name words =
     search (steps, alone_fits, any_fits (phase_first words), set_alone_fits, refused_fits, act_alone_fits, pick_alone_fits) depth 18
 
-pub fact_fits : (name : Word) (words : List Word) → AreWords words → IfOk (named_fact name words) FactFits
+pub fact_fits : (name : Word) (words : List Word) → IfOk (named_fact name words) FactFits
 unfolding named_fact
-fact_fits name words g =
+fact_fits name words =
     either FactFits (bytes_eq name (codes "received")) _ _ (mapped FactFits Received (messages_of words) (messages_fit words))
     (either FactFits (bytes_eq name (codes "decided")) _ _ (mapped FactFits Decided (decisions_of words) (decisions_fit words))
     (either FactFits (bytes_eq name (codes "delivered")) _ _ (mapped FactFits Delivered (messages_of words) (messages_fit words))
     (either FactFits (bytes_eq name (codes "table")) _ _ (mapped FactFits Table (table_of words) (table_fits words))
-    (either FactFits (bytes_eq name (codes "estimate")) _ _ (mapped FactFits Estimate (estimate_of words) (estimate_fits words g))
-    (plain_fits name words g)))))
+    (either FactFits (bytes_eq name (codes "estimate")) _ _ (mapped FactFits Estimate (estimate_of words) (estimate_fits words))
+    (plain_fits name words)))))

@@ -1,9 +1,7 @@
 -- Goals that are read can be written.
-use Rattle.std.proofs.Common.{◌≡◌, ℕ, ◌≤◌, ◌<◌, Bool, true, false, cond, List, [], ◌∷◌, length, refl, arith}
+use Rattle.std.proofs.Common.{ℕ, ◌≤◌, ◌<◌, List, [], ◌∷◌, length, arith}
 use Rattle.std.proofs.lemmas.List.Splits.{length-slice_split}
 use Rattle.std.specs.Prelude.{Option, Some, None, Result, Ok, Err, IfOk, IfSome}
-use Rattle.std.specs.List.{list_all, slice_split, onto_first}
-use Rattle.ct_names.proofs.Lists.{both-left}
 use Rattle.ct_grammar.specs.declared.claim.Amount.{Amount}
 use Rattle.ct_grammar.specs.declared.claim.Claim.{Claim}
 use Rattle.ct_grammar.specs.declared.claim.Claim.TheVariants as claims
@@ -19,10 +17,9 @@ use Rattle.ct_grammar.specs.Numbers.{max_u32}
 use Rattle.ct_grammar.specs.Words.{Word, words_of}
 use Rattle.ct_print.specs.Writable.{IsCounted, IsRules, ClaimFits, WhomFits, TermFits, GoalFits}
 use Rattle.ct_print.proofs.FactsFit.{fact_fits, reason_rules}
-use Rattle.ct_print.proofs.Readable.{steps, ok_weaker, mapped, May, Gives, AreWords, words_behind, number_within}
+use Rattle.ct_print.proofs.Readable.{steps, ok_weaker, mapped, May, Gives, number_within}
 use Rattle.ct_print.proofs.Readable.{members_are_set}
 use Rattle.ct_print.proofs.ReportsFit.{alone_fits, name_fits}
-use Rattle.ct_print.proofs.TextWords.{is_word, words_are_words}
 
 -- the claim, where there is one, can be written
 abbrev pub MayFit : {E : Type 0} → Option (Result Claim E) → Type 0
@@ -30,21 +27,21 @@ MayFit claim = IfSome claim (λ r. IfOk r ClaimFits)
 
 -- ---- amounts
 
-extent_fits : (what : Amount) → IsCounted what → (words : List Word) → AreWords words →
+extent_fits : (what : Amount) → IsCounted what → (words : List Word) →
     IfOk (extent_of words) (λ extent. ClaimFits (claims.Amount what extent))
 unfolding extent_of
-extent_fits what c [] g = tt
-extent_fits what c (word ∷ words) g = search (steps, alone_fits)
+extent_fits what c [] = tt
+extent_fits what c (word ∷ words) = search (steps, alone_fits)
 
-counted_fits : (what : Amount) → IsCounted what → (words : List Word) → AreWords words → MayFit (counted what words)
+counted_fits : (what : Amount) → IsCounted what → (words : List Word) → MayFit (counted what words)
 unfolding counted
-counted_fits what c [] g = tt
-counted_fits what c (word ∷ words) g = search (steps, extent_fits what c)
+counted_fits what c [] = tt
+counted_fits what c (word ∷ words) = search (steps, extent_fits what c)
 
-at_least_fits : (what : Amount) (words : List Word) → AreWords words → MayFit (at_least what words)
+at_least_fits : (what : Amount) (words : List Word) → MayFit (at_least what words)
 unfolding at_least
-at_least_fits what [] g = tt
-at_least_fits what (word ∷ words) g = search (steps, alone_fits)
+at_least_fits what [] = tt
+at_least_fits what (word ∷ words) = search (steps, alone_fits)
 
 -- ---- decisions and deliveries
 
@@ -94,26 +91,26 @@ alone_word_fits name what claim (word ∷ words) h = search steps
 lone_fits : (claim : Claim) (words : List Word) → ClaimFits claim → IfOk (lone_claim claim words) ClaimFits
 lone_fits claim words h = search steps
 
-step_fits : (name : Word) (words : List Word) → AreWords words → MayFit (step_claim name words)
+step_fits : (name : Word) (words : List Word) → MayFit (step_claim name words)
 unfolding step_claim followed
-step_fits name words g = search (steps, alone_word_fits, lone_fits, alone_fits) depth 12
+step_fits name words = search (steps, alone_word_fits, lone_fits, alone_fits) depth 12
 
 -- ---- all claims
 
-amount_fits : (name : Word) (words : List Word) → AreWords words → MayFit (amount_claim name words)
+amount_fits : (name : Word) (words : List Word) → MayFit (amount_claim name words)
 unfolding amount_claim event_claim
-amount_fits name words g =
+amount_fits name words =
     search (steps, at_least_fits, counted_fits, decided_fits, delivered_fits, refused_fits, step_fits) depth 12
 
-claim_fits : (words : List Word) → AreWords words → Gives (claim_of words) ClaimFits
+claim_fits : (words : List Word) → Gives (claim_of words) ClaimFits
 unfolding claim_of or_fact
-claim_fits [] g Q k = tt
-claim_fits (name ∷ words) g Q k =
-    ok_weaker ClaimFits Q _ (go (amount_claim name words) (amount_fits name words (words_behind name words g))) k
+claim_fits [] Q k = tt
+claim_fits (name ∷ words) Q k =
+    ok_weaker ClaimFits Q _ (go (amount_claim name words) (amount_fits name words)) k
   where
     go : (o : Option (Result Claim _)) → MayFit o → IfOk (or_fact o name words) ClaimFits
     go (Some r) h = h
-    go None h = mapped ClaimFits _ (named_fact name words) (fact_fits name words (words_behind name words g))
+    go None h = mapped ClaimFits _ (named_fact name words) (fact_fits name words)
 
 -- ---- terms
 
@@ -121,15 +118,15 @@ whom_fits : (word : Word) → May (whom_of word) WhomFits
 unfolding whom_of
 whom_fits word Q k = search (steps, members_are_set, number_within) depth 8
 
-claimed_fits : (when : When) (what : _) (words : List Word) → AreWords words → Gives (claimed when what words) TermFits
+claimed_fits : (when : When) (what : _) (words : List Word) → Gives (claimed when what words) TermFits
 unfolding claimed
-claimed_fits when what [] g Q k = tt
-claimed_fits when what (word ∷ words) g Q k = search (steps, whom_fits, claim_fits) depth 7
+claimed_fits when what [] Q k = tt
+claimed_fits when what (word ∷ words) Q k = search (steps, whom_fits, claim_fits) depth 7
 
-term_fits : (words : List Word) → AreWords words → Gives (term_of words) TermFits
+term_fits : (words : List Word) → Gives (term_of words) TermFits
 unfolding term_of
-term_fits [] g Q k = tt
-term_fits (word ∷ words) g Q k = search (steps, claimed_fits)
+term_fits [] Q k = tt
+term_fits (word ∷ words) Q k = search (steps, claimed_fits)
 
 -- ---- goals
 
@@ -137,43 +134,24 @@ before_and_fits : (P : Term → Type 0) (words : List Word) (r : Result Term _) 
 before_and_fits P words (Ok x) h = h
 before_and_fits P words (Err unfit) h = tt
 
--- each part is words of lines
-abbrev pub AreParts : List (List Word) → Type 0
-AreParts [] = Unit {0}
-AreParts (part ∷ parts) = AreWords part × AreParts parts
-
-longer_part : (word : Word) (parts : List (List Word)) → is_word word ≡ true → AreParts parts → AreParts (onto_first word parts)
-longer_part word [] w h = (rw w refl, tt)
-longer_part word (part ∷ parts) w h = (rw w h.0, h.1)
-
-parts_are : (words : List Word) → AreWords words → AreParts (parts_of words)
-parts_are [] g = (refl, tt)
-parts_are (word ∷ words) g =
-    go (is_and word) (both-left (is_word word) (list_all is_word words) g) (parts_are words (words_behind word words g))
-  where
-    go : (b : Bool) → is_word word ≡ true → AreParts (slice_split is_and words) →
-        AreParts (cond b ([] ∷ slice_split is_and words) (onto_first word (slice_split is_and words)))
-    go true w h = (refl, h)
-    go false w h = longer_part word (slice_split is_and words) w h
-
 -- no goal is without terms, so no part is
 some_more : (term : Term) (terms : List Term) → TermFits term → GoalFits terms → GoalFits (term ∷ terms)
 some_more term [] h k = absurd k
 some_more term (next ∷ terms) h k = (h, k)
 
-terms_fit : (part : List Word) (parts : List (List Word)) → AreParts (part ∷ parts) → Gives (terms_of (part ∷ parts)) GoalFits
-terms_fit part [] h Q k = search (steps, term_fits)
-terms_fit part (next ∷ parts) h Q k = search (steps, before_and_fits, term_fits, terms_fit next parts h.1, some_more) depth 8
+terms_fit : (part : List Word) (parts : List (List Word)) → Gives (terms_of (part ∷ parts)) GoalFits
+terms_fit part [] Q k = search (steps, term_fits)
+terms_fit part (next ∷ parts) Q k = search (steps, before_and_fits, term_fits, terms_fit next parts, some_more) depth 8
 
-some_parts : (parts : List (List Word)) → 0 < length parts → AreParts parts → Gives (terms_of parts) GoalFits
-some_parts [] s h Q k = absurd (omega arith)
-some_parts (part ∷ parts) s h Q k = terms_fit part parts h Q k
+some_parts : (parts : List (List Word)) → 0 < length parts → Gives (terms_of parts) GoalFits
+some_parts [] s Q k = absurd (omega arith)
+some_parts (part ∷ parts) s Q k = terms_fit part parts Q k
 
-pub goal_fits : (words : List Word) → AreWords words → Gives (goal_in words) GoalFits
+pub goal_fits : (words : List Word) → Gives (goal_in words) GoalFits
 unfolding goal_in
-goal_fits words g = some_parts (parts_of words) (omega (arith, length-slice_split is_and words)) (parts_are words g)
+goal_fits words = some_parts (parts_of words) (omega (arith, length-slice_split is_and words))
 
 -- a goal that is read can be written
 pub goal_readable : (bytes : List ℕ) → IfOk (goal_of bytes) GoalFits
 unfolding goal_of
-goal_readable bytes = goal_fits (words_of bytes) (words_are_words bytes) GoalFits (λ goal h. h)
+goal_readable bytes = goal_fits (words_of bytes) GoalFits (λ goal h. h)

@@ -3,6 +3,7 @@ pub mod CutsFit
 pub mod CutsRead
 pub mod FactsFit
 pub mod FactsRead
+pub mod Glued
 pub mod GoalsFit
 pub mod GoalsRead
 pub mod LinesFit
@@ -16,6 +17,8 @@ pub mod Readable
 pub mod ReportsFit
 pub mod ReportsRead
 pub mod Spoken
+pub mod StatementsFit
+pub mod StatementsRead
 pub mod TermsRead
 pub mod TextWords
 pub mod TurnsFit

@@ -11,49 +11,48 @@ use Rattle.ct_print.specs.Writable.{WhoFits, PlayFits, QuestionFits, IsWritable}
 use Rattle.ct_print.proofs.CutsFit.{cut_fits}
 use Rattle.ct_print.proofs.GoalsFit.{goal_fits}
 use Rattle.ct_print.proofs.TurnsFit.{done_fits}
-use Rattle.ct_print.proofs.Readable.{steps, Gives, AreWords, who_fits, number_first_fits, member_first_fits}
-use Rattle.ct_print.proofs.TextWords.{words_are_words}
+use Rattle.ct_print.proofs.Readable.{steps, Gives, who_fits, number_first_fits, member_first_fits}
 
-member_fits : (words : List Word) → AreWords words → Gives (lone_member words) (λ p. p ≤ max_u8)
+member_fits : (words : List Word) → Gives (lone_member words) (λ p. p ≤ max_u8)
 unfolding lone_member
-member_fits words g Q k = search (steps, member_first_fits) depth 7
+member_fits words Q k = search (steps, member_first_fits) depth 7
 
-number_fits : (low high : ℕ) (what : _) (words : List Word) → AreWords words →
+number_fits : (low high : ℕ) (what : _) (words : List Word) →
     Gives (lone_number low high what words) (λ n. (low ≤ n) × (n ≤ high))
 unfolding lone_number
-number_fits low high what words g Q k = search (steps, number_first_fits) depth 7
+number_fits low high what words Q k = search (steps, number_first_fits) depth 7
 
 -- at most this high
-number_upto : (high : ℕ) (what : _) (words : List Word) → AreWords words → Gives (lone_number 0 high what words) (λ n. n ≤ high)
-number_upto high what words g Q k = number_fits 0 high what words g Q (λ n h. k n h.1)
+number_upto : (high : ℕ) (what : _) (words : List Word) → Gives (lone_number 0 high what words) (λ n. n ≤ high)
+number_upto high what words Q k = number_fits 0 high what words Q (λ n h. k n h.1)
 
-question_fits : (name : Word) (words : List Word) → AreWords words → Gives (question_of name words) QuestionFits
+question_fits : (name : Word) (words : List Word) → Gives (question_of name words) QuestionFits
 unfolding question_of short_question
-question_fits name words g Q k = search (steps, member_fits) depth 14
+question_fits name words Q k = search (steps, member_fits) depth 14
 
-played_fits : (name : Word) (words : List Word) → AreWords words → Gives (played_of name words) PlayFits
+played_fits : (name : Word) (words : List Word) → Gives (played_of name words) PlayFits
 unfolding played_of
-played_fits name words g Q k = search (steps, member_fits, cut_fits, question_fits) depth 8
+played_fits name words Q k = search (steps, member_fits, cut_fits, question_fits) depth 8
 
-heading_fits : (name : Word) (words : List Word) → AreWords words → IfOk (named name words) IsWritable
+heading_fits : (name : Word) (words : List Word) → IfOk (named name words) IsWritable
 unfolding named heading_of
-heading_fits name words g = search (steps, number_upto, number_fits, played_fits) depth 8
+heading_fits name words = search (steps, number_upto, number_fits, played_fits) depth 8
 
-worded_fits : (words : List Word) → AreWords words → IfOk (worded words) IsWritable
+worded_fits : (words : List Word) → IfOk (worded words) IsWritable
 unfolding worded
-worded_fits [] g = tt
-worded_fits (name ∷ words) g = search (steps, goal_fits, heading_fits)
+worded_fits [] = tt
+worded_fits (name ∷ words) = search (steps, goal_fits, heading_fits)
 
-words_fit : (words : List Word) → AreWords words → IfOk (of_words words) IsWritable
+words_fit : (words : List Word) → IfOk (of_words words) IsWritable
 unfolding of_words begun
-words_fit [] g = tt
-words_fit (name ∷ words) g = go (who_of name) (who_fits name)
+words_fit [] = tt
+words_fit (name ∷ words) = go (who_of name) (who_fits name)
   where
     go : (who : Option Who) → IfSome who WhoFits → IfOk (begun who name words) IsWritable
-    go None h = worded_fits (name ∷ words) g
+    go None h = worded_fits (name ∷ words)
     go (Some who) h = search (steps, done_fits)
 
 -- a line that is read can be written
 pub readable : (bytes : List ℕ) → IfOk (line_of bytes) IsWritable
 unfolding line_of
-readable bytes = words_fit (words_of bytes) (words_are_words bytes)
+readable bytes = words_fit (words_of bytes)

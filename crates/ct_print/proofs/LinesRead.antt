@@ -1,48 +1,44 @@
 -- Lines, written and read.
-use Rattle.std.proofs.Common.{◌≡◌, ℕ, ◌<◌, ◌≤◌, ◌^◌, false, List, [], ◌∷◌, ◌++◌, length, refl, sym, ap, ◌∙◌, arith, append-nil, subst}
-use Rattle.std.proofs.Common.{inl, inr}
+use Rattle.std.proofs.Common.{◌≡◌, ℕ, ◌<◌, ◌≤◌, ◌^◌, false, List, [], ◌∷◌, ◌++◌, refl, sym, ap, ◌∙◌, arith, append-nil}
 use Rattle.std.specs.Prelude.{codes, decimal, Ok}
-use Rattle.std.specs.Str.{bytes_eq}
-use Rattle.std.proofs.lemmas.Slice.Eq.{bytes_eq-Decides}
 use Rattle.ct_names.specs.declared.limit.TheConstants.{MAX_BOUND, MAX_CELLS, MAX_MEMBERS}
-use Rattle.ct_names.proofs.Lists.{true_or_false}
 use Rattle.ct_grammar.specs.declared.act.Act.{Act}
-use Rattle.ct_grammar.specs.declared.act.Act.TheVariants.{Submit, Receive}
-use Rattle.ct_grammar.specs.declared.carried.Carried.TheVariants.{Data}
+use Rattle.ct_grammar.specs.declared.act.Act.TheVariants.{Submit}
 use Rattle.ct_grammar.specs.declared.goal.Goal.{Goal}
 use Rattle.ct_grammar.specs.declared.given.Given.{Given}
 use Rattle.ct_grammar.specs.declared.given.Given.TheVariants.{Members, Cells, Batch}
 use Rattle.ct_grammar.specs.declared.line.Line.{Line}
 use Rattle.ct_grammar.specs.declared.line.Line.TheVariants.{Blank, Given as Gives, Play as Plays}
-use Rattle.ct_grammar.specs.declared.pick.Pick.TheVariants.{First}
 use Rattle.ct_grammar.specs.declared.play.Play.{Play}
 use Rattle.ct_grammar.specs.declared.play.Play.TheVariants.{Act as Acts, Stated, Turns, Settle, Until, Cut, Heal, Expect, Ask}
 use Rattle.ct_grammar.specs.declared.question.Question.{Question}
 use Rattle.ct_grammar.specs.declared.question.Question.TheVariants.{Enabled, Next, State, Waiting, Report, Record, Limits}
+use Rattle.ct_grammar.specs.declared.statement.Statement.{Statement}
 use Rattle.ct_grammar.specs.declared.who.Who.{Who}
-use Rattle.ct_grammar.specs.Acts.{command_first, named_command}
 use Rattle.ct_grammar.specs.Leading.{over}
 use Rattle.ct_grammar.specs.Lines.{settled_or_acted, done_by, played_of, lone_number, heading_of, named, worded, begun, of_words, line_of}
 use Rattle.ct_grammar.specs.Misfits.{told}
 use Rattle.ct_grammar.specs.Numbers.{max_u8, max_u32, number_of, members_of}
 use Rattle.ct_grammar.specs.Questions.{lone_member, short_question, question_of}
-use Rattle.ct_grammar.specs.Stated.{says_value, lone_value, lone_command, carried_statement, pick_statement, statement, taken, acted}
+use Rattle.ct_grammar.specs.Stated.{taken, acted}
 use Rattle.ct_grammar.specs.Turns.{suspected, set_alone, lone_suspected, counted, behind_until, watched, until_of, says_until, turns_of}
 use Rattle.ct_grammar.specs.Turns.{settle_of}
 use Rattle.ct_grammar.specs.Who.{who_of}
-use Rattle.ct_grammar.specs.Words.{Word, words_of, text_of, all_words}
+use Rattle.ct_grammar.specs.Words.{Word, all_words}
 use Rattle.ct_print.specs.Acts.{act_text}
 use Rattle.ct_print.specs.Goals.{goal_text}
 use Rattle.ct_print.specs.Lines.{given_text, question_text, suspecting_text, play_text, line_text}
 use Rattle.ct_print.specs.Members.{set_text, who_text}
+use Rattle.ct_print.specs.Statements.{statement_text}
 use Rattle.ct_print.specs.Writable.{IsSet, WhoFits, ActFits, GoalFits, GivenFits, QuestionFits, PlayFits, IsWritable}
-use Rattle.ct_print.specs.Writable.{IsStatement}
+use Rattle.ct_print.specs.Writable.{StatementFits, IsStatedOf}
 use Rattle.ct_print.proofs.ActsRead.{number_is_first, member_is_first, whole_is_first, set_is_first, act_back, from_first}
 use Rattle.ct_print.proofs.CutsRead.{cut_words, cut_reads, cut_back}
 use Rattle.ct_print.proofs.FactsRead.{who_back}
 use Rattle.ct_print.proofs.Numeric.{decimal_numeric, numeric_other}
 use Rattle.ct_print.proofs.NoAnd.{as_read, number_says, whole_says, spoken}
-use Rattle.ct_print.proofs.Spoken.{act_words, act_says, set_says, quoted_reads, some_length, some_set, who_reads}
+use Rattle.ct_print.proofs.Spoken.{act_words, act_says, set_says, some_length, some_set, who_reads}
+use Rattle.ct_print.proofs.StatementsRead.{statement_words, statement_reads, no_sender, taken_back}
 use Rattle.ct_print.proofs.TermsRead.{goal_words, goal_reads, goal_back}
 use Rattle.ct_print.proofs.TextWords.{Reads, beside, word_before, word_reads, words_from}
 
@@ -68,7 +64,7 @@ suspecting_words (p ∷ ps) = codes "suspecting" ∷ set_text (p ∷ ps) ∷ []
 
 abbrev pub play_words : Play → List Word
 play_words (Acts who act) = who_text who ∷ act_words act
-play_words (Stated who act quoted) = who_text who ∷ (act_words act ++ words_of quoted)
+play_words (Stated who act said) = who_text who ∷ (act_words act ++ statement_words said)
 play_words (Turns who n set) = who_text who ∷ codes "turns" ∷ decimal n ∷ suspecting_words set
 play_words (Settle who set) = who_text who ∷ codes "settle" ∷ suspecting_words set
 play_words (Until who set goal) = who_text who ∷ codes "turns" ∷ (suspecting_words set ++ (codes "until" ∷ goal_words goal))
@@ -114,9 +110,9 @@ all_reads goal h = goal_reads goal h
 play_reads : (play : Play) → PlayFits play → Reads (play_text play) (play_words play)
 unfolding play_text
 play_reads (Acts who act) h = who_and who _ _ h.0 (act_says act h.1).reads
-play_reads (Stated who act quoted) h =
-    who_and who _ _ h.0 (beside (act_text act) quoted (act_words act) (words_of quoted) (act_says act h.1).reads
-    (quoted_reads quoted h.2.quotable))
+play_reads (Stated who act said) h =
+    who_and who _ _ h.0 (beside (act_text act) (statement_text said) (act_words act) (statement_words said) (act_says act h.1).reads
+    (statement_reads said h.2))
 play_reads (Turns who n set) h =
     suspecting_reads _ (who_text who ∷ codes "turns" ∷ decimal n ∷ []) set h.2
     (who_and who _ _ h.0 (word_before (codes "turns") _ _ refl (whole_says n h.1).reads))
@@ -159,35 +155,11 @@ alone_taken : (who : Who) (act : Act) → ActFits act → done_by who (act_words
 unfolding taken
 alone_taken who act h = ap (done_by who) (sym (append-nil (act_words act))) ∙ act_taken who act [] h refl
 
--- nothing that is stated begins with `from`
-not_stated : (act : Act) (words : List Word) → statement act (codes "from" ∷ words) ≡ Ok tt → ⊥
-unfolding statement pick_statement carried_statement lone_value lone_command says_value over command_first named_command
-not_stated (Receive (First (Data o n) from)) words e = cc
-not_stated _ words e = cc
-
-no_sender : (act : Act) (words : List Word) → statement act words ≡ Ok tt → from_first words ≡ false
-no_sender act [] e = refl
-no_sender act (word ∷ words) e = elim (true_or_false (bytes_eq word (codes "from"))) [
-  | inl is ↦
-      let same : word ≡ codes "from" = (bytes_eq-Decides word (codes "from")).0 is in
-      absurd (not_stated act words (subst (λ (w : Word). statement act (w ∷ words) ≡ Ok tt) same e))
-  | inr is ↦ is
-]
-
-stated_taken : (who : Who) (act : Act) (quoted : List ℕ) → ActFits act → IsStatement act quoted →
-    done_by who (act_words act ++ words_of quoted) ≡ Ok (Stated who act quoted)
-unfolding taken
-stated_taken who act quoted h k =
-    act_taken who act (words_of quoted) h (no_sender act (words_of quoted) k.stated)
-    ∙ ap (told (act_words act ++ words_of quoted)) (go (words_of quoted) refl k.stated)
-  where
-    go : (ws : List Word) → words_of quoted ≡ ws → statement act ws ≡ Ok tt → taken who act ws ≡ Ok (Stated who act quoted)
-    go [] e s =
-        let nothing : quoted ≡ [] = sym k.quotable.words ∙ ap text_of e in
-        absurd (omega (arith, k.quotable.some, ap length nothing))
-    go (w ∷ ws) e s =
-        let text : text_of (w ∷ ws) ≡ quoted = ap text_of (sym e) ∙ k.quotable.words in
-        rw (s, text) refl
+stated_taken : (who : Who) (act : Act) (said : Statement) → ActFits act → StatementFits said → IsStatedOf act said →
+    done_by who (act_words act ++ statement_words said) ≡ Ok (Stated who act said)
+stated_taken who act said h k l =
+    act_taken who act (statement_words said) h (no_sender said)
+    ∙ ap (told (act_words act ++ statement_words said)) (taken_back who act said k l)
 
 -- ---- turns
 
@@ -243,8 +215,8 @@ question_back _ h = first_of (search, simp member_alone)
 play_back : (play : Play) → PlayFits play → of_words (play_words play) ≡ Ok (Plays play)
 unfolding of_words who_of members_of number_of begun worded named heading_of played_of over
 play_back (Acts who act) h = begun_by who (act_words act) (Acts who act) h.0 (alone_taken who act h.1)
-play_back (Stated who act quoted) h =
-    begun_by who (act_words act ++ words_of quoted) (Stated who act quoted) h.0 (stated_taken who act quoted h.1 h.2)
+play_back (Stated who act said) h =
+    begun_by who (act_words act ++ statement_words said) (Stated who act said) h.0 (stated_taken who act said h.1 h.2 h.3)
 play_back (Turns who n set) h = begun_by who _ (Turns who n set) h.0 (turns_taken who n set h.1 h.2)
 play_back (Settle who set) h = begun_by who _ (Settle who set) h.0 (settle_taken who set h.1)
 play_back (Until who set goal) h = begun_by who _ (Until who set goal) h.0 (until_taken who set goal h.1 h.2)

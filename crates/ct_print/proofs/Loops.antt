@@ -67,7 +67,12 @@ module _ (between : List ℕ) (test : ℕ → Bool) (f : ℕ → Word) (i : ℕ)
       mid ≡ old ++ cond later between [] → end ≡ mid ++ f (i + 1) → end ++ listed between true (left test f (i + 1)) ≡ whole
   one_written mid end h lt is first second =
       let rest = listed between true (left test f (i + 1)) in
-      rw (second, first, append_assoc (old ++ cond later between []) (f (i + 1)) rest, append_assoc old (cond later between []) (f (i + 1) ++ rest))
+      rw (
+        second,
+        first,
+        append_assoc (old ++ cond later between []) (f (i + 1)) rest,
+        append_assoc old (cond later between []) (f (i + 1) ++ rest),
+      )
       (ap (λ (ts : List Word). old ++ listed between later ts) (sym (left_taken test f i lt is)) ∙ h)
 
   -- one is passed over

@@ -45,6 +45,22 @@ place_behind at (c ∷ cs) behind h =
     )
     (omega arith)
 
+-- and where it stands nowhere
+no_place : (at : ℕ) (word : Word) → Lacks at word → position_or_len (λ c. c == at) word ≡ length word
+no_place at [] h = refl
+no_place at (c ∷ cs) h =
+    rw (
+      not-true (c == at) (both-left (not (c == at)) (list_all (λ d. not (d == at)) cs) h),
+      no_place at cs (both-right (not (c == at)) (list_all (λ d. not (d == at)) cs) h),
+    )
+    (omega arith)
+
+pub lacks_parted : (at : ℕ) (word : Word) → Lacks at word → parted at word ≡ None
+unfolding parted
+lacks_parted at word h =
+    let past : ltb (length word) (length word) ≡ false = grind (arith, nat_tests) in
+    rw (no_place at word h, past) refl
+
 pub parted_behind : (at : ℕ) (word behind : Word) → Lacks at word → parted at (word ++ at ∷ behind) ≡ Some (word, behind)
 unfolding parted
 parted_behind at word behind h =
@@ -117,19 +133,10 @@ members_back p ps h =
 
 -- ---- commas
 
-no_comma : (digits : Word) → list_all is_ascii_digit digits ≡ true → position_or_len (λ c. c == 44) digits ≡ length digits
-no_comma [] h = refl
-no_comma (c ∷ cs) h =
-    rw (
-      not_at 44 c refl (both-left (is_ascii_digit c) (list_all is_ascii_digit cs) h),
-      no_comma cs (both-right (is_ascii_digit c) (list_all is_ascii_digit cs) h),
-    )
-    (omega arith)
-
 pub alone_no_comma : (digits : Word) → list_all is_ascii_digit digits ≡ true → has_comma digits ≡ false
 alone_no_comma digits h =
     let past : ltb (length digits) (length digits) ≡ false = grind (arith, nat_tests) in
-    rw (no_comma digits h, past) refl
+    rw (no_place 44 digits (digits_lack 44 digits refl h), past) refl
 
 pub list_has_comma : (digits behind : Word) → list_all is_ascii_digit digits ≡ true → has_comma (digits ++ 44 ∷ behind) ≡ true
 list_has_comma digits behind h =
@@ -138,7 +145,4 @@ list_has_comma digits behind h =
     rw (place_behind 44 digits behind (digits_lack 44 digits refl h), within) refl
 
 pub alone_parted : (digits : Word) → list_all is_ascii_digit digits ≡ true → parted 44 digits ≡ None
-unfolding parted
-alone_parted digits h =
-    let past : ltb (length digits) (length digits) ≡ false = grind (arith, nat_tests) in
-    rw (no_comma digits h, past) refl
+alone_parted digits h = lacks_parted 44 digits (digits_lack 44 digits refl h)

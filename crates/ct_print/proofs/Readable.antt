@@ -1,16 +1,15 @@
 -- What is read can be written.
-use Rattle.std.proofs.Common.{◌≡◌, ℕ, ◌+◌, ◌-◌, ◌*◌, ◌<◌, ◌≤◌, ◌==◌, ◌||◌, Bool, true, false, cond, List, [], ◌∷◌, length, refl, sym, ap}
-use Rattle.std.proofs.Common.{arith, true≢false, leb-true, eq-eqb}
+use Rattle.std.proofs.Common.{◌≡◌, ℕ, ◌+◌, ◌-◌, ◌*◌, ◌<◌, ◌≤◌, ◌==◌, ◌||◌, Bool, true, false, cond, List, [], ◌∷◌, length, refl}
+use Rattle.std.proofs.Common.{arith, leb-true, eq-eqb}
 use Rattle.std.specs.Prelude.{Option, Some, None, Result, Ok, Err, IfOk, IfSome, nat_le, option_map, option_and_then}
 use Rattle.std.specs.Char.{is_ascii_digit}
-use Rattle.std.specs.List.{list_all}
 use Rattle.std.specs.Option.{ok_or}
 use Rattle.std.proofs.lemmas.List.Splits.{length-slice_split}
 use Rattle.ct_names.specs.Group.{everyone, IsMember}
 use Rattle.ct_names.specs.Membership.{IsIn}
 use Rattle.ct_names.specs.MemberSet.{has_member, with_member}
 use Rattle.ct_names.specs.declared.limit.TheConstants.{MAX_MEMBERS}
-use Rattle.ct_names.proofs.Lists.{IsIn-filter, both-left, both-right}
+use Rattle.ct_names.proofs.Lists.{IsIn-filter}
 use Rattle.ct_names.proofs.MemberSets.{filter-has_member, in-everyone}
 use Rattle.ct_grammar.specs.declared.carried.Carried.{Carried}
 use Rattle.ct_grammar.specs.Acts.{operands, named_command, command_first, short_act, lose_first, picked_act, long_act, act_first}
@@ -20,9 +19,8 @@ use Rattle.ct_grammar.specs.Numbers.{number_behind, number_of, number_in, parted
 use Rattle.ct_grammar.specs.Picks.{serial_of, message_first, place_first, carried_first, sent_pick, pick_first}
 use Rattle.ct_grammar.specs.Unfits.{◌>>=◌, map_ok}
 use Rattle.ct_grammar.specs.Who.{who_of}
-use Rattle.ct_grammar.specs.Words.{Word, words_of, text_of}
-use Rattle.ct_print.specs.Writable.{IsSomeSet, WhoFits, CommandFits, CarriedFits, PickFits, ActFits, IsQuotable}
-use Rattle.ct_print.proofs.TextWords.{is_word, joined_reads, words_from}
+use Rattle.ct_grammar.specs.Words.{Word}
+use Rattle.ct_print.specs.Writable.{IsSomeSet, WhoFits, CommandFits, CarriedFits, PickFits, ActFits}
 
 -- ---- tests, and what answers are
 
@@ -77,15 +75,8 @@ unfolding over
 unless_over P what [] h = h
 unless_over P what (word ∷ words) h = tt
 
--- the words of a line are words
-abbrev pub AreWords : List Word → Type 0
-AreWords words = list_all is_word words ≡ true
-
-pub words_behind : (word : Word) (words : List Word) → AreWords (word ∷ words) → AreWords words
-words_behind word words h = both-right (is_word word) (list_all is_word words) h
-
 -- what an answer is made of, backwards
-pub ruleset steps = (either, some_either, some_mapped, some_bound, mapped, bound, found, told_fits, unless_over, words_behind)
+pub ruleset steps = (either, some_either, some_mapped, some_bound, mapped, bound, found, told_fits, unless_over)
 
 -- P holds of the answer, where there is one: so does all that follows from P. `Leads` is of an answer with the words behind it
 abbrev pub May : {A : Type 0} → Option A → (A → Type 0) → Type 1
@@ -95,7 +86,7 @@ abbrev pub Gives : {A E : Type 0} → Result A E → (A → Type 0) → Type 1
 Gives {A = A} r P = (Q : A → Type 0) → ((x : A) → P x → Q x) → IfOk r Q
 
 abbrev pub Leads : {A E : Type 0} → Result (A × List Word) E → (A → Type 0) → Type 1
-Leads {A = A} r P = (Q : A × List Word → Type 0) → ((x : A × List Word) → P x.0 → AreWords x.1 → Q x) → IfOk r Q
+Leads {A = A} r P = (Q : A × List Word → Type 0) → ((x : A × List Word) → P x.0 → Q x) → IfOk r Q
 
 -- ---- numbers
 
@@ -157,87 +148,71 @@ pub who_fits : (word : Word) → IfSome (who_of word) WhoFits
 unfolding who_of
 who_fits word = search (steps, members_are_set, number_within)
 
--- ---- quoted texts
-
-pub words_again : (words : List Word) → AreWords words → words_of (text_of words) ≡ words
-words_again words h = words_from (text_of words) words (joined_reads words h)
-
-some_text : (word : Word) (words : List Word) → is_word word ≡ true → 0 < length (text_of (word ∷ words))
-some_text [] words h = absurd (true≢false (sym h))
-some_text (c ∷ cs) [] h = omega arith
-some_text (c ∷ cs) (next ∷ words) h = omega arith
-
-pub text_is_quotable : (word : Word) (words : List Word) → AreWords (word ∷ words) → IsQuotable (text_of (word ∷ words))
-text_is_quotable word words h = record {
-  words = ap text_of (words_again (word ∷ words) h);
-  some = some_text word words (both-left (is_word word) (list_all is_word words) h);
-}
-
 -- ---- first words
 
-pub number_first_fits : (low high : ℕ) (what : _) (words : List Word) → AreWords words →
+pub number_first_fits : (low high : ℕ) (what : _) (words : List Word) →
     Leads (number_first low high what words) (λ n. (low ≤ n) × (n ≤ high))
 unfolding number_first
-number_first_fits low high what [] g Q k = tt
-number_first_fits low high what (word ∷ words) g Q k = search (steps, number_between)
+number_first_fits low high what [] Q k = tt
+number_first_fits low high what (word ∷ words) Q k = search (steps, number_between)
 
-pub member_first_fits : (what : _) (words : List Word) → AreWords words → Leads (member_first what words) (λ n. n ≤ max_u8)
+pub member_first_fits : (what : _) (words : List Word) → Leads (member_first what words) (λ n. n ≤ max_u8)
 unfolding member_first
-member_first_fits what words g Q k = number_first_fits 0 max_u8 what words g Q (λ r h. k r h.1)
+member_first_fits what words Q k = number_first_fits 0 max_u8 what words Q (λ r h. k r h.1)
 
-pub whole_first_fits : (what : _) (words : List Word) → AreWords words → Leads (whole_first what words) (λ n. n ≤ max_u32)
+pub whole_first_fits : (what : _) (words : List Word) → Leads (whole_first what words) (λ n. n ≤ max_u32)
 unfolding whole_first
-whole_first_fits what words g Q k = number_first_fits 0 max_u32 what words g Q (λ r h. k r h.1)
+whole_first_fits what words Q k = number_first_fits 0 max_u32 what words Q (λ r h. k r h.1)
 
-pub set_first_fits : (words : List Word) → AreWords words → Leads (set_first words) IsSomeSet
+pub set_first_fits : (words : List Word) → Leads (set_first words) IsSomeSet
 unfolding set_first
-set_first_fits [] g Q k = tt
-set_first_fits (word ∷ words) g Q k = search (steps, members_are_set)
+set_first_fits [] Q k = tt
+set_first_fits (word ∷ words) Q k = search (steps, members_are_set)
 
 -- ---- commands
 
-operands_fit : (high : ℕ) (what : _) (words : List Word) → AreWords words →
+operands_fit : (high : ℕ) (what : _) (words : List Word) →
     Leads (operands high what words) (λ r. (r.0 ≤ max_u8) × (r.1 ≤ high))
 unfolding operands
-operands_fit high what words g Q k =
-    bound Q (member_first _ words) _ (member_first_fits _ words g _ (λ r h l. bound Q (number_first 0 high what r.1) _
-    (number_first_fits 0 high what r.1 l _ (λ n m. k ((r.0, n.0), n.1) (h, m.1)))))
+operands_fit high what words Q k =
+    bound Q (member_first _ words) _ (member_first_fits _ words _ (λ r h. bound Q (number_first 0 high what r.1) _
+    (number_first_fits 0 high what r.1 _ (λ n m. k ((r.0, n.0), n.1) (h, m.1)))))
 
-pub command_fits : (what : _) (words : List Word) → AreWords words → Leads (command_first what words) CommandFits
+pub command_fits : (what : _) (words : List Word) → Leads (command_first what words) CommandFits
 unfolding command_first named_command
-command_fits what [] g Q k = tt
-command_fits what (name ∷ words) g Q k = search (steps, operands_fit) depth 8
+command_fits what [] Q k = tt
+command_fits what (name ∷ words) Q k = search (steps, operands_fit) depth 8
 
 -- ---- envelopes
 
-message_fits : (words : List Word) → AreWords words → Leads (message_first words) CarriedFits
+message_fits : (words : List Word) → Leads (message_first words) CarriedFits
 unfolding message_first
-message_fits [] g Q k = tt
-message_fits (word ∷ words) g Q k = search (steps, two_within)
+message_fits [] Q k = tt
+message_fits (word ∷ words) Q k = search (steps, two_within)
 
-place_fits : (words : List Word) → AreWords words → Leads (place_first words) (λ r. (r.0 ≤ max_u32) × (r.1 ≤ max_u32))
+place_fits : (words : List Word) → Leads (place_first words) (λ r. (r.0 ≤ max_u32) × (r.1 ≤ max_u32))
 unfolding place_first
-place_fits [] g Q k = tt
-place_fits (word ∷ words) g Q k = search (steps, two_within)
+place_fits [] Q k = tt
+place_fits (word ∷ words) Q k = search (steps, two_within)
 
-carried_fits : (what : _) (kind : Word) (words : List Word) → AreWords words → Leads (carried_first what kind words) CarriedFits
+carried_fits : (what : _) (kind : Word) (words : List Word) → Leads (carried_first what kind words) CarriedFits
 unfolding carried_first
-carried_fits what kind words g Q k = search (steps, message_fits, place_fits) depth 12
+carried_fits what kind words Q k = search (steps, message_fits, place_fits) depth 12
 
-sent_fits : (carried : Carried) (words : List Word) → CarriedFits carried → AreWords words → Leads (sent_pick carried words) PickFits
+sent_fits : (carried : Carried) (words : List Word) → CarriedFits carried → Leads (sent_pick carried words) PickFits
 unfolding sent_pick
-sent_fits carried [] h g Q k = search
-sent_fits carried (word ∷ words) h g Q k = search (steps, member_first_fits)
+sent_fits carried [] h Q k = search
+sent_fits carried (word ∷ words) h Q k = search (steps, member_first_fits)
 
 serial_fits : (word : Word) → May (serial_of word) (λ n. n ≤ max_u32)
 unfolding serial_of
 serial_fits [] Q k = tt
 serial_fits (c ∷ cs) Q k = search (steps, number_within)
 
-pub pick_fits : (what : _) (words : List Word) → AreWords words → Leads (pick_first what words) PickFits
+pub pick_fits : (what : _) (words : List Word) → Leads (pick_first what words) PickFits
 unfolding pick_first
-pick_fits what [] g Q k = tt
-pick_fits what (word ∷ words) g Q k = search (steps, serial_fits, carried_fits, sent_fits) depth 8
+pick_fits what [] Q k = tt
+pick_fits what (word ∷ words) Q k = search (steps, serial_fits, carried_fits, sent_fits) depth 8
 
 -- ---- acts
 
@@ -245,16 +220,16 @@ short_fits : (name : Word) → May (short_act name) ActFits
 unfolding short_act
 short_fits name Q k = search steps depth 14
 
-lost_fits : (words : List Word) → AreWords words → Leads (lose_first words) ActFits
+lost_fits : (words : List Word) → Leads (lose_first words) ActFits
 unfolding lose_first
-lost_fits [] g Q k = tt
-lost_fits (word ∷ words) g Q k = search (steps, set_first_fits, pick_fits)
+lost_fits [] Q k = tt
+lost_fits (word ∷ words) Q k = search (steps, set_first_fits, pick_fits)
 
-picked_fits : (what : _) (name : Word) (words : List Word) → AreWords words → Leads (picked_act what name words) ActFits
+picked_fits : (what : _) (name : Word) (words : List Word) → Leads (picked_act what name words) ActFits
 unfolding picked_act
-picked_fits what name words g Q k = search (steps, pick_fits, short_fits) depth 12
+picked_fits what name words Q k = search (steps, pick_fits, short_fits) depth 12
 
-pub act_fits : (what : _) (words : List Word) → AreWords words → Leads (act_first what words) ActFits
+pub act_fits : (what : _) (words : List Word) → Leads (act_first what words) ActFits
 unfolding act_first long_act
-act_fits what [] g Q k = tt
-act_fits what (name ∷ words) g Q k = search (steps, command_fits, member_first_fits, lost_fits, picked_fits) depth 8
+act_fits what [] Q k = tt
+act_fits what (name ∷ words) Q k = search (steps, command_fits, member_first_fits, lost_fits, picked_fits) depth 8

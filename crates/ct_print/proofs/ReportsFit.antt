@@ -1,30 +1,32 @@
 -- What reports say of members: what is read can be written.
-use Rattle.std.proofs.Common.{◌≡◌, ℕ, ◌+◌, ◌<◌, ◌≤◌, ◌==◌, List, [], ◌∷◌, ◌++◌, get_or, refl, sym, ap, ◌∙◌, arith, append-nil, append_assoc}
-use Rattle.std.proofs.Common.{subst, inl, inr, eqb-true, length-set, get_or-set_same, get_or-set_other}
+use Rattle.std.proofs.Common.{◌≡◌, ℕ, ◌+◌, ◌<◌, ◌≤◌, ◌==◌, List, [], ◌∷◌, ◌++◌, length, get_or, refl, sym, ap, ◌∙◌, arith, append-nil}
+use Rattle.std.proofs.Common.{append_assoc, subst, inl, inr, eqb-true, length-append, length-set, get_or-set_same, get_or-set_other}
 use Rattle.std.specs.Prelude.{codes, Option, Some, None, Result, Ok, Err, IfOk, IfSome, slice_set}
 use Rattle.std.specs.Option.{ok_or}
 use Rattle.std.specs.Str.{bytes_eq}
 use Rattle.std.proofs.lemmas.Bool.{eqb-false}
+use Rattle.std.proofs.lemmas.List.Splits.{length-slice_split}
 use Rattle.ct_names.proofs.Lists.{true_or_false}
 use Rattle.ct_names.specs.declared.limit.TheConstants.{REGISTERS}
 use Rattle.ct_table.specs.Table.{zeros}
 use Rattle.ct_grammar.specs.declared.claim.Name.{Name}
-use Rattle.ct_grammar.specs.declared.decision.Decision.{Decision}
+use Rattle.ct_grammar.specs.declared.reports.decision.Decision.{Decision}
 use Rattle.ct_grammar.specs.Leading.{lone_whole}
-use Rattle.ct_grammar.specs.Names.{name_of, names_behind, names_within, names_or_dash, decision_of, within_braces, value_of, with_register}
+use Rattle.ct_grammar.specs.Names.{name_of, names_behind, names_within, names_or_dash, decision_of, glued, within_braces, value_of}
+use Rattle.ct_grammar.specs.Names.{with_register}
 use Rattle.ct_grammar.specs.Numbers.{number_in, parted, max_u32, max_u64}
 use Rattle.ct_grammar.specs.Reports.{unless_dash, with_names, messages_of, with_decisions, decisions_of, with_registers, table_of}
 use Rattle.ct_grammar.specs.Reports.{ts_of, adopted_of, estimate_of}
 use Rattle.ct_grammar.specs.Words.{Word}
 use Rattle.ct_print.specs.Writable.{NameFits, NamesFit, DecisionsFit, TableFits, EstimateFits}
-use Rattle.ct_print.proofs.Readable.{some_bound, bound, found, some_either, mapped, steps, some_if, May, Gives, AreWords, two_within}
-use Rattle.ct_print.proofs.Readable.{number_between, words_behind, whole_first_fits}
+use Rattle.ct_print.proofs.Readable.{some_bound, bound, found, some_either, mapped, steps, some_if, May, Gives, two_within}
+use Rattle.ct_print.proofs.Readable.{number_between, whole_first_fits}
 use Rattle.ct_print.proofs.ReportsRead.{all_zero}
 
 -- a number alone
-pub alone_fits : (what : _) (words : List Word) → AreWords words → Gives (lone_whole what words) (λ n. n ≤ max_u32)
+pub alone_fits : (what : _) (words : List Word) → Gives (lone_whole what words) (λ n. n ≤ max_u32)
 unfolding lone_whole
-alone_fits what words g Q k = search (steps, whole_first_fits) depth 7
+alone_fits what words Q k = search (steps, whole_first_fits) depth 7
 
 -- what is read, unless a dash stands there
 dash_or : {A : Type 0} (P : A → Type 0) (said : _) (nothing : A) (read : Result A _) → P nothing → IfOk read P →
@@ -32,6 +34,10 @@ dash_or : {A : Type 0} (P : A → Type 0) (said : _) (nothing : A) (read : Resul
 dash_or P None nothing read h k = k
 dash_or P (Some (Ok x)) nothing read h k = h
 dash_or P (Some (Err e)) nothing read h k = tt
+
+pub some_weaker : {A : Type 0} {P Q : A → Type 0} (o : Option A) → IfSome o P → ((x : A) → P x → Q x) → IfSome o Q
+some_weaker None h f = tt
+some_weaker (Some x) h f = f x h
 
 -- ---- messages
 
@@ -55,18 +61,26 @@ messages_fit words = dash_or NamesFit _ [] _ tt (names_fit [] words tt)
 
 -- ---- decisions
 
-behind_fit : (names : List Name) (parts : List Word) → NamesFit names → IfSome (names_behind names parts) NamesFit
-behind_fit names [] h = h
-behind_fit names (part ∷ parts) h =
-    some_bound NamesFit _ (name_of part) (name_fits part _ (λ name k. behind_fit (names ++ name ∷ []) parts (one_name_more names name h k)))
+abbrev pub SomeFit : List Name → Type 0
+SomeFit names = NamesFit names × (0 < length names)
 
-within_fit : (word : Word) → IfSome (names_within word) NamesFit
+behind_fit : (names : List Name) (parts : List Word) → NamesFit names → 0 < length names + length parts →
+    IfSome (names_behind names parts) SomeFit
+behind_fit names [] h some = (h, omega (arith, some))
+behind_fit names (part ∷ parts) h some =
+    some_bound SomeFit _ (name_of part) (name_fits part _ (λ name k. behind_fit (names ++ name ∷ []) parts (one_name_more names name h k)
+    (omega (arith, length-append names (name ∷ [])))))
+
+pub within_fit : (word : Word) → IfSome (names_within word) SomeFit
 unfolding names_within
-within_fit word = behind_fit [] _ tt
+within_fit word = behind_fit [] _ tt (omega (arith, length-slice_split (λ (c : ℕ). c == 44) word))
+
+names_alone_fit : (word : Word) → IfSome (names_within word) NamesFit
+names_alone_fit word = some_weaker (names_within word) (within_fit word) (λ names h. h.0)
 
 or_dash_fit : (word : Word) → IfSome (names_or_dash word) NamesFit
 unfolding names_or_dash
-or_dash_fit word = some_either NamesFit (bytes_eq word (codes "-")) _ _ tt (within_fit word)
+or_dash_fit word = some_either NamesFit (bytes_eq word (codes "-")) _ _ tt (names_alone_fit word)
 
 -- a decision behind the last one
 record IsNext (last : ℕ) (d : Decision) : Type 0 where
@@ -77,10 +91,6 @@ record IsNext (last : ℕ) (d : Decision) : Type 0 where
 each : {A : Type 0} {P : A → Type 0} (o : Option A) → ((x : A) → P x) → IfSome o P
 each None f = tt
 each (Some x) f = f x
-
-some_weaker : {A : Type 0} {P Q : A → Type 0} (o : Option A) → IfSome o P → ((x : A) → P x → Q x) → IfSome o Q
-some_weaker None h f = tt
-some_weaker (Some x) h f = f x h
 
 decision_fits : (last : ℕ) (word : Word) → IfSome (decision_of last word) (IsNext last)
 unfolding decision_of
@@ -145,26 +155,27 @@ table_fits words = dash_or TableFits _ zeros _ zeros_fit (registers_fit zeros wo
 
 -- ---- estimates
 
-value_fits : (word : Word) → IfSome (value_of word) NamesFit
+pub value_fits : (word : Word) → IfSome (value_of word) NamesFit
 unfolding value_of
 value_fits word =
     some_bound NamesFit _ (within_braces word) (each (within_braces word)
-    (λ names. some_either NamesFit (bytes_eq names []) _ _ tt (within_fit names)))
+    (λ names. some_either NamesFit (bytes_eq names []) _ _ tt (names_alone_fit names)))
 
-ts_fits : (words : List Word) → AreWords words → Gives (ts_of words) (λ n. n ≤ max_u32)
+pub ts_fits : (words : List Word) → Gives (ts_of words) (λ n. n ≤ max_u32)
 unfolding ts_of
-ts_fits [] g Q k = tt
-ts_fits (word ∷ words) g Q k = search (steps, alone_fits)
+ts_fits [] Q k = tt
+ts_fits (word ∷ words) Q k = search (steps, alone_fits)
 
-adopted_fits : (words : List Word) → AreWords words → IfOk (adopted_of words) EstimateFits
+adopted_fits : (words : List Word) → IfOk (adopted_of words) EstimateFits
 unfolding adopted_of
-adopted_fits [] g = tt
-adopted_fits (word ∷ words) g =
-    bound EstimateFits (ok_or (value_of word) _) _
-    (found _ (value_of word) _ (some_weaker (value_of word) (value_fits word)
-    (λ names h. bound EstimateFits (ts_of words) _ (ts_fits words (words_behind word words g) _ (λ ts k. (h, k))))))
+adopted_fits [] = tt
+adopted_fits (word ∷ words) =
+    let value = value_of (glued word words).0 in
+    bound EstimateFits (ok_or value _) _
+    (found _ value _ (some_weaker value (value_fits (glued word words).0)
+    (λ names h. bound EstimateFits (ts_of (glued word words).1) _ (ts_fits (glued word words).1 _ (λ ts k. (h, k))))))
 
-pub estimate_fits : (words : List Word) → AreWords words → IfOk (estimate_of words) (λ estimate. IfSome estimate EstimateFits)
+pub estimate_fits : (words : List Word) → IfOk (estimate_of words) (λ estimate. IfSome estimate EstimateFits)
 unfolding estimate_of
-estimate_fits words g =
-    dash_or (λ estimate. IfSome estimate EstimateFits) _ None _ tt (mapped _ _ (adopted_of words) (adopted_fits words g))
+estimate_fits words =
+    dash_or (λ estimate. IfSome estimate EstimateFits) _ None _ tt (mapped _ _ (adopted_of words) (adopted_fits words))

@@ -14,8 +14,8 @@ use Rattle.ct_names.specs.declared.limit.TheConstants.{REGISTERS}
 use Rattle.ct_table.specs.Table.{zeros}
 use Rattle.ct_text.specs.Lists.{first_registers, list_text, nonzero, register_text, register_texts, table_text}
 use Rattle.ct_grammar.specs.declared.claim.Name.{Name}
-use Rattle.ct_grammar.specs.declared.decision.Decision.{Decision}
-use Rattle.ct_grammar.specs.declared.estimate.Estimate.{Estimate}
+use Rattle.ct_grammar.specs.declared.reports.decision.Decision.{Decision}
+use Rattle.ct_grammar.specs.declared.reports.estimate.Estimate.{Estimate}
 use Rattle.ct_grammar.specs.declared.claim.Amount.{Amount}
 use Rattle.ct_grammar.specs.declared.claim.Amount.TheVariants as amount
 use Rattle.ct_grammar.specs.Claims.{counted, one_number, decided, before, delivered, event_claim, amount_claim}
@@ -29,6 +29,7 @@ use Rattle.ct_grammar.specs.Words.{Word}
 use Rattle.ct_print.specs.Reports.{name_text, names_text, decision_text, decisions_text, value_text, estimate_text}
 use Rattle.ct_print.specs.Writable.{NameFits, NamesFit, DecisionsFit, TableFits, EstimateFits}
 use Rattle.ct_print.proofs.ActsRead.{alone_back}
+use Rattle.ct_print.proofs.Glued.{value_stays}
 use Rattle.ct_print.proofs.NoAnd.{Says, said, led, numeric_says, whole_says}
 use Rattle.ct_print.proofs.Numerals.{number_in_back, no_number}
 use Rattle.ct_print.proofs.Numeric.{IsNumeric, AreNumeric, numeric_other, numeric_behind, decimal_numeric, decimal_digits, two_numeric}
@@ -86,12 +87,12 @@ name_lacks at name e dot h =
     list_all-append (λ c. not (c == at)) (decimal name.origin) (46 ∷ (decimal name.number ++ []))
     ∙ rw (first, dot, append-nil (decimal name.number)) second
 
-names_lack : (at : ℕ) (names : List Name) → is_ascii_digit at ≡ false → (46 == at) ≡ false → NamesFit names →
+pub names_lack : (at : ℕ) (names : List Name) → is_ascii_digit at ≡ false → (46 == at) ≡ false → NamesFit names →
     list_all (list_all (λ c. not (c == at))) (map name_text names) ≡ true
 names_lack at [] e dot h = refl
 names_lack at (name ∷ names) e dot h = rw (name_lacks at name e dot h.0) (names_lack at names e dot h.1)
 
-joined_lacks : (at : ℕ) (words : List Word) → (44 == at) ≡ false → list_all (list_all (λ c. not (c == at))) words ≡ true →
+pub joined_lacks : (at : ℕ) (words : List Word) → (44 == at) ≡ false → list_all (list_all (λ c. not (c == at))) words ≡ true →
     Lacks at (join_with_byte 44 words)
 joined_lacks at [] e h = refl
 joined_lacks at (word ∷ []) e h = both-left (list_all (λ c. not (c == at)) word) true h
@@ -106,7 +107,7 @@ behind_back before [] h = ap Some (sym (append-nil before))
 behind_back before (name ∷ names) h =
     rw (name_back name h.0) (behind_back (before ++ name ∷ []) names h.1 ∙ ap Some (append_assoc before (name ∷ []) names))
 
-within_back : (name : Name) (names : List Name) → NamesFit (name ∷ names) →
+pub within_back : (name : Name) (names : List Name) → NamesFit (name ∷ names) →
     names_within (join_with_byte 44 (map name_text (name ∷ names))) ≡ Some (name ∷ names)
 unfolding names_within
 within_back name names h =
@@ -173,11 +174,11 @@ abbrev pub estimate_words : Option Estimate → List Word
 estimate_words None = codes "-" ∷ []
 estimate_words (Some e) = value_text e.names ∷ codes "ts" ∷ decimal e.ts ∷ []
 
-value_letters : (names : List Name) → NamesFit names → list_all is_letter (join_with_byte 44 (map name_text names)) ≡ true
+pub value_letters : (names : List Name) → NamesFit names → list_all is_letter (join_with_byte 44 (map name_text names)) ≡ true
 value_letters [] h = refl
 value_letters (name ∷ names) h = (commas_numeric name names h).letters
 
-value_says : (names : List Name) → NamesFit names → Says (value_text names) (value_text names ∷ [])
+pub value_says : (names : List Name) → NamesFit names → Says (value_text names) (value_text names ∷ [])
 unfolding value_text
 value_says names h =
     said _ (rw (list_all-append is_letter (join_with_byte 44 (map name_text names)) (125 ∷ []), value_letters names h) refl) refl
@@ -199,7 +200,7 @@ within_value names h =
     rw (parted_behind 125 (join_with_byte 44 (map name_text names)) []
     (joined_lacks 125 (map name_text names) refl (names_lack 125 names refl refl h))) refl
 
-value_back : (names : List Name) → NamesFit names → value_of (value_text names) ≡ Some names
+pub value_back : (names : List Name) → NamesFit names → value_of (value_text names) ≡ Some names
 unfolding value_of
 value_back [] h = rw (within_value [] h) refl
 value_back (name ∷ names) h =
@@ -212,7 +213,13 @@ value_no_dash names = refl
 pub estimate_back : (estimate : Option Estimate) → IfSome estimate EstimateFits → estimate_of (estimate_words estimate) ≡ Ok estimate
 unfolding estimate_of lone_dash adopted_of ts_of over
 estimate_back None h = refl
-estimate_back (Some e) h = rw (value_no_dash e.names, value_back e.names h.0, alone_back e.ts _ h.1) refl
+estimate_back (Some e) h =
+    rw (
+      value_no_dash e.names,
+      value_stays e.names (codes "ts" ∷ decimal e.ts ∷ []),
+      value_back e.names h.0,
+      alone_back e.ts _ h.1,
+    ) refl
 
 -- ---- tables
 

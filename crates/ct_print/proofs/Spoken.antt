@@ -19,15 +19,15 @@ use Rattle.ct_grammar.specs.declared.pick.Pick.TheVariants.{Serial, First}
 use Rattle.ct_grammar.specs.declared.who.Who.{Who}
 use Rattle.ct_grammar.specs.declared.who.Who.TheVariants.{One, Some as Several, All}
 use Rattle.ct_grammar.specs.Numbers.{max_u8, max_u32}
-use Rattle.ct_grammar.specs.Words.{Word, words_of}
+use Rattle.ct_grammar.specs.Words.{Word}
 use Rattle.ct_print.specs.Acts.{act_text, pick_text, sent_text, carried_text, command_text, message_word, place_word}
 use Rattle.ct_print.specs.Members.{set_text, list_text, who_text}
-use Rattle.ct_print.specs.Writable.{IsSet, IsSomeSet, WhoFits, CommandFits, CarriedFits, PickFits, ActFits, IsQuotable}
+use Rattle.ct_print.specs.Writable.{IsSet, IsSomeSet, WhoFits, CommandFits, CarriedFits, PickFits, ActFits}
 use Rattle.ct_print.proofs.NoAnd.{Says, said, says_beside, led, numeric_says, member_says, spoken}
 use Rattle.ct_print.proofs.Numeric.{IsNumeric, numeric_reads, numeric_behind, decimal_numeric, two_numeric, joined_numeric}
 use Rattle.ct_print.proofs.Numeric.{numbers_numeric}
 use Rattle.ct_print.proofs.Parts.{AreSmall}
-use Rattle.ct_print.proofs.TextWords.{Reads, is_word, word_reads, joined_reads, words_are_words}
+use Rattle.ct_print.proofs.TextWords.{Reads, is_word, word_reads}
 
 -- ---- parts
 
@@ -48,9 +48,6 @@ set_numeric (p ∷ ps) some h = joined_numeric (decimal p) (map decimal ps) (num
 
 pub set_says : (set : List ℕ) → IsSomeSet set → Says (set_text set) (set_text set ∷ [])
 set_says set h = numeric_says (set_text set) (set_numeric set h.some (small_members set h))
-
-pub quoted_reads : (text : List ℕ) → IsQuotable text → Reads text (words_of text)
-quoted_reads text h = subst (λ (t : List ℕ). Reads t (words_of text)) h.words (joined_reads (words_of text) (words_are_words text))
 
 -- ---- members
 
@@ -110,7 +107,7 @@ act_words (Lose pick) = codes "lose" ∷ pick_words pick
 act_words (Repeat pick) = codes "repeat" ∷ pick_words pick
 act_words (LoseFrom set) = codes "lose" ∷ codes "from" ∷ set_text set ∷ []
 
-command_says : (command : Command) → CommandFits command → Says (command_text command) (command_words command)
+pub command_says : (command : Command) → CommandFits command → Says (command_text command) (command_words command)
 unfolding command_text
 command_says (Set r v) h = search spoken
 command_says _ h = search spoken

@@ -9,7 +9,7 @@ use Rattle.std.proofs.lemmas.List.Folds.{list_all-append}
 use Rattle.std.proofs.lemmas.List.Splits.{length-slice_split, slice_split-cons_yes, slice_split-cons_no}
 use Rattle.std.proofs.lemmas.List.Sums.{take_while-cons}
 use Rattle.ct_names.proofs.Lists.{both-left, both-right, not-true}
-use Rattle.ct_grammar.specs.Words.{Word, is_blank, is_nothing, begins_with_digit, begins_comment, all_words, words_of, text_of}
+use Rattle.ct_grammar.specs.Words.{Word, is_blank, is_nothing, begins_with_digit, begins_comment, all_words, words_of}
 
 abbrev pub is_letter : ℕ → Bool
 is_letter c = not (is_blank c)
@@ -100,16 +100,6 @@ numeric_word (c ∷ cs) first letters =
     let other : (c == 35) ≡ false = grind (arith, nat_tests) in
     rw (letters, other) refl
 
--- words with a space between each two
-pub joined_reads : (words : List Word) → list_all is_word words ≡ true → Reads (text_of words) words
-unfolding all_words
-joined_reads [] h = record { all = refl; plain = refl }
-joined_reads (word ∷ []) h = word_reads word (both-left (is_word word) true h)
-joined_reads (word ∷ next ∷ words) h =
-    beside word (text_of (next ∷ words)) (word ∷ []) (next ∷ words)
-    (word_reads word (both-left (is_word word) (list_all is_word (next ∷ words)) h))
-    (joined_reads (next ∷ words) (both-right (is_word word) (list_all is_word (next ∷ words)) h))
-
 -- ---- the words of a text
 
 taken_all : (p : Word → Bool) (words : List Word) → list_all p words ≡ true → take_while p words ≡ words
@@ -122,37 +112,3 @@ taken_all p (word ∷ words) h =
 pub words_from : (text : List ℕ) (words : List Word) → Reads text words → words_of text ≡ words
 unfolding words_of
 words_from text words h = ap (take_while is_plain) h.all ∙ taken_all is_plain words h.plain
-
-letters_onto : (c : ℕ) (parts : List Word) → is_letter c ≡ true → list_all (list_all is_letter) parts ≡ true →
-    list_all (list_all is_letter) (onto_first c parts) ≡ true
-letters_onto c [] e h = rw e refl
-letters_onto c (part ∷ parts) e h = rw e h
-
-parts_have_letters : (line : List ℕ) → list_all (list_all is_letter) (slice_split is_blank line) ≡ true
-parts_have_letters [] = refl
-parts_have_letters (c ∷ cs) = go (is_blank c) refl (parts_have_letters cs)
-  where
-    go : (b : Bool) → is_blank c ≡ b → list_all (list_all is_letter) (slice_split is_blank cs) ≡ true →
-        list_all (list_all is_letter) (cond b ([] ∷ slice_split is_blank cs) (onto_first c (slice_split is_blank cs))) ≡ true
-    go true e h = h
-    go false e h = letters_onto c (slice_split is_blank cs) (ap not e) h
-
-kept_words : (parts : List Word) → list_all (list_all is_letter) parts ≡ true →
-    list_all is_word (take_while is_plain (filter (λ part. not (is_nothing part)) parts)) ≡ true
-kept_words [] h = refl
-kept_words ([] ∷ parts) h = kept_words parts h
-kept_words ((c ∷ cs) ∷ parts) h =
-    let letters : list_all is_letter (c ∷ cs) ≡ true = both-left (list_all is_letter (c ∷ cs)) (list_all (list_all is_letter) parts) h in
-    rw take_while-cons
-    (go (is_plain (c ∷ cs)) refl letters
-    (kept_words parts (both-right (list_all is_letter (c ∷ cs)) (list_all (list_all is_letter) parts) h)))
-  where
-    go : (b : Bool) → is_plain (c ∷ cs) ≡ b → list_all is_letter (c ∷ cs) ≡ true →
-        list_all is_word (take_while is_plain (filter (λ part. not (is_nothing part)) parts)) ≡ true →
-        list_all is_word (cond b ((c ∷ cs) ∷ take_while is_plain (filter (λ part. not (is_nothing part)) parts)) []) ≡ true
-    go true e l rest = rw (l, e, rest) refl
-    go false e l rest = refl
-
-pub words_are_words : (line : List ℕ) → list_all is_word (words_of line) ≡ true
-unfolding words_of all_words
-words_are_words line = kept_words (slice_split is_blank line) (parts_have_letters line)

@@ -5,4 +5,5 @@ pub mod Goals
 pub mod Lines
 pub mod Members
 pub mod Reports
+pub mod Statements
 pub mod Writable

@@ -13,6 +13,7 @@ use Rattle.ct_print.specs.Acts.{act_text}
 use Rattle.ct_print.specs.Cuts.{sides_text}
 use Rattle.ct_print.specs.Goals.{goal_text}
 use Rattle.ct_print.specs.Members.{set_text, who_text}
+use Rattle.ct_print.specs.Statements.{statement_text}
 
 -- a number of the group
 unfoldable pub given_text : Given → List ℕ
@@ -37,7 +38,7 @@ suspecting_text set = if length set == 0 then [] else codes " suspecting " ++ se
 -- what is played
 unfoldable pub play_text : Play → List ℕ
 play_text (Acts who act) = text_of (who_text who ∷ act_text act ∷ [])
-play_text (Stated who act said) = text_of (who_text who ∷ act_text act ∷ said ∷ [])
+play_text (Stated who act said) = text_of (who_text who ∷ act_text act ∷ statement_text said ∷ [])
 play_text (Turns who n set) = text_of (who_text who ∷ codes "turns" ∷ decimal n ∷ []) ++ suspecting_text set
 play_text (Settle who set) = text_of (who_text who ∷ codes "settle" ∷ []) ++ suspecting_text set
 play_text (Until who set goal) =

@@ -3,8 +3,8 @@ use Rattle.std.specs.Prelude.{ℕ, List, [], ◌∷◌, codes, decimal, map, Opt
 use Rattle.std.specs.List.{concat, join_with_byte}
 use Rattle.ct_text.specs.Lists.{list_text}
 use Rattle.ct_grammar.specs.declared.claim.Name.{Name}
-use Rattle.ct_grammar.specs.declared.decision.Decision.{Decision}
-use Rattle.ct_grammar.specs.declared.estimate.Estimate.{Estimate}
+use Rattle.ct_grammar.specs.declared.reports.decision.Decision.{Decision}
+use Rattle.ct_grammar.specs.declared.reports.estimate.Estimate.{Estimate}
 use Rattle.ct_grammar.specs.Words.{Word}
 
 -- the name of a message

@@ -1,5 +1,5 @@
 -- Which lines can be written: those that some text says.
-use Rattle.std.specs.Prelude.{◌≡◌, ◌≢◌, ◌≤◌, ◌<◌, ℕ, List, [], ◌∷◌, length, filter, get_or, Ok, IfSome}
+use Rattle.std.specs.Prelude.{◌≡◌, ◌≢◌, ◌≤◌, ◌<◌, ℕ, List, [], ◌∷◌, length, filter, get_or, IfSome}
 use Rattle.ct_names.specs.Group.{everyone, IsMember}
 use Rattle.ct_names.specs.MemberSet.{has_member}
 use Rattle.ct_names.specs.declared.command.Command.{Command}
@@ -18,8 +18,11 @@ use Rattle.ct_grammar.specs.declared.claim.Claim.TheVariants as claims
 use Rattle.ct_grammar.specs.declared.claim.Extent.{Extent}
 use Rattle.ct_grammar.specs.declared.claim.Extent.TheVariants.{Exactly, AtLeast}
 use Rattle.ct_grammar.specs.declared.claim.Name.{Name}
-use Rattle.ct_grammar.specs.declared.decision.Decision.{Decision}
-use Rattle.ct_grammar.specs.declared.estimate.Estimate.{Estimate}
+use Rattle.ct_grammar.specs.declared.reports.decision.Decision.{Decision}
+use Rattle.ct_grammar.specs.declared.reports.estimate.Estimate.{Estimate}
+use Rattle.ct_grammar.specs.declared.reports.listed.Listed.{Listed}
+use Rattle.ct_grammar.specs.declared.statement.Statement.{Statement}
+use Rattle.ct_grammar.specs.declared.statement.Statement.TheVariants as says
 use Rattle.ct_grammar.specs.declared.fact.Fact.{Fact}
 use Rattle.ct_grammar.specs.declared.fact.Fact.TheVariants.{Up, Crashed, Idle, Instance, Round, Phase as InPhase}
 use Rattle.ct_grammar.specs.declared.fact.Fact.TheVariants.{Received, Decided, Delivered, Table, Refuses, May}
@@ -43,8 +46,6 @@ use Rattle.ct_grammar.specs.declared.who.Who.{Who}
 use Rattle.ct_grammar.specs.declared.who.Who.TheVariants.{One, Some as Several, All}
 use Rattle.ct_grammar.specs.Numbers.{max_u8, max_u32, max_u64}
 use Rattle.ct_grammar.specs.Sides.{whole, side_of}
-use Rattle.ct_grammar.specs.Stated.{statement}
-use Rattle.ct_grammar.specs.Words.{words_of, text_of}
 
 -- ---- members
 
@@ -67,18 +68,6 @@ pub record IsCut (sides : List ℕ) : Type 0 where
   pub sixteen : length sides ≡ MAX_MEMBERS
   pub named : (p : ℕ) → IsMember MAX_MEMBERS p → side_of sides (side_of sides p) ≡ side_of sides p
   pub some : sides ≢ whole
-
--- ---- texts that are quoted
-
--- its words, one at least, with a space between each two
-pub record IsQuotable (text : List ℕ) : Type 0 where
-  pub words : text_of (words_of text) ≡ text
-  pub some : 0 < length text
-
--- what is stated behind the act
-pub record IsStatement (act : Act) (said : List ℕ) : Type 0 where
-  pub quotable : IsQuotable said
-  pub stated : statement act (words_of said) ≡ Ok tt
 
 -- ---- acts
 
@@ -137,6 +126,62 @@ pub record TableFits (values : List ℕ) : Type 0 where
 
 abbrev pub EstimateFits : Estimate → Type 0
 EstimateFits e = NamesFit e.names × (e.ts ≤ max_u32)
+
+-- ---- what is stated
+
+-- more messages than are named only where some are
+abbrev pub MoreFits : List Name → ℕ → Type 0
+MoreFits [] more = more ≡ 0
+MoreFits (name ∷ names) more = more ≤ max_u32
+
+abbrev pub ListedFits : Listed → Type 0
+ListedFits l = NamesFit l.names × MoreFits l.names l.more
+
+abbrev pub StatementFits : Statement → Type 0
+StatementFits (says.Command command) = CommandFits command
+StatementFits (says.Value listed) = ListedFits listed
+StatementFits (says.Estimate listed ts) = ListedFits listed × (ts ≤ max_u32)
+
+abbrev pub IsCommand : Statement → Type 0
+IsCommand (says.Command command) = Unit {0}
+IsCommand (says.Value listed) = ⊥
+IsCommand (says.Estimate listed ts) = ⊥
+
+abbrev pub IsValue : Statement → Type 0
+IsValue (says.Command command) = ⊥
+IsValue (says.Value listed) = Unit {0}
+IsValue (says.Estimate listed ts) = Unit {0}
+
+-- what may be stated of what an envelope carries: of a message its command, of acks and nacks nothing, of others a value
+abbrev pub IsCarried : Carried → Statement → Type 0
+IsCarried (Data origin number) said = IsCommand said
+IsCarried (Est i r) said = IsValue said
+IsCarried (Prop i r) said = IsValue said
+IsCarried (Ack i r) said = ⊥
+IsCarried (Nack i r) said = ⊥
+IsCarried (Dec i r) said = IsValue said
+
+abbrev pub IsReceived : Pick → Statement → Type 0
+IsReceived (Serial n) said = Unit {0}
+IsReceived (First carried from) said = IsCarried carried said
+
+-- what may be stated behind the act
+abbrev pub IsStatedOf : Act → Statement → Type 0
+IsStatedOf (Submit command) said = ⊥
+IsStatedOf (Receive pick) said = IsReceived pick said
+IsStatedOf Begin said = IsValue said
+IsStatedOf Enter said = IsValue said
+IsStatedOf (Choose p) said = IsValue said
+IsStatedOf Adopt said = IsValue said
+IsStatedOf Suspect said = ⊥
+IsStatedOf Conclude said = IsValue said
+IsStatedOf Deliver said = IsValue said
+IsStatedOf Follow said = IsValue said
+IsStatedOf Crash said = ⊥
+IsStatedOf (Postpone pick) said = ⊥
+IsStatedOf (Lose pick) said = ⊥
+IsStatedOf (Repeat pick) said = ⊥
+IsStatedOf (LoseFrom set) said = ⊥
 
 -- ---- facts
 
@@ -226,7 +271,7 @@ QuestionFits Limits = Unit {0}
 
 abbrev pub PlayFits : Play → Type 0
 PlayFits (Acts who act) = WhoFits who × ActFits act
-PlayFits (Stated who act said) = WhoFits who × ActFits act × IsStatement act said
+PlayFits (Stated who act said) = WhoFits who × ActFits act × StatementFits said × IsStatedOf act said
 PlayFits (Turns who n set) = WhoFits who × (n ≤ max_u32) × IsSet set
 PlayFits (Settle who set) = WhoFits who × IsSet set
 PlayFits (Until who set goal) = WhoFits who × IsSet set × GoalFits goal
@@ -235,7 +280,7 @@ PlayFits Heal = Unit {0}
 PlayFits (Expect goal) = GoalFits goal
 PlayFits (Ask question) = QuestionFits question
 
--- each number is one of its type, each set one of members, each text one that a line can quote
+-- each number is one of its type, each set one of members, and what is stated may be stated of the act
 abbrev pub IsWritable : Line → Type 0
 IsWritable Blank = Unit {0}
 IsWritable (Gives given) = GivenFits given

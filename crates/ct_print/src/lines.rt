@@ -9,6 +9,7 @@ use crate::acts::push_act;
 use crate::cuts::push_sides;
 use crate::goals::push_goal;
 use crate::members::{push_set, push_who};
+use crate::statements::push_statement;
 use ct_grammar::{Given, Goal, Line, Play, Question, Who};
 use ct_names::MemberSet;
 use std::alloc::AllocError;
@@ -52,7 +53,7 @@ fn push_play(text: &mut String, play: &Play) -> Result<(), AllocError>
             push_whose(text, *who)?;
             push_act(text, act)?;
             text.push_str(" ")?;
-            text.push_str(said.as_str())
+            push_statement(text, said)
         }
         Play::Turns(who, count, set) => {
             push_whose(text, *who)?;

@@ -24,8 +24,12 @@ pub(crate) fn push_names(
     push_some_names(text, separator, names)
 }
 
-// The names, with the separator between each two.
-fn push_some_names(text: &mut String, separator: char, names: &[Name]) -> Result<(), AllocError>
+/// The names, with the separator between each two.
+pub(crate) fn push_some_names(
+    text: &mut String,
+    separator: char,
+    names: &[Name],
+) -> Result<(), AllocError>
     requires { separator < 128 }
     ensures { OnOk result (Adds text.old text.new (join_with_byte separator (map name_text names.now))) }
 {

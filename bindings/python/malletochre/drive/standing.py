@@ -205,7 +205,7 @@ class Standing:
             return carried(self.sent[step.serial][2])
         if step.name in ("enter", "choose"):
             return carried(self.sent[serials[0]][2])
-        return f" {value_text(batch)}" if step.name in ("deliver", "follow") and len(batch) <= 8 else ""
+        return f" {value_text(batch)}" if step.name in ("deliver", "follow") else ""
 
     def stands(self, p: int) -> str:
         """Where the member stands."""

@@ -24,7 +24,7 @@ use Rattle.ct_model.proofs.Consensus.Readings.{acked-of, acker-got, estimate_fro
 use Rattle.ct_table.specs.Table.{table}
 use Rattle.ct_world.specs.Standing.{acked_by, all_heard_by, estimate_by}
 use Rattle.ct_world.specs.World.{if_member, member_of}
-use Rattle.ct_grammar.specs.declared.estimate.Estimate.{Estimate}
+use Rattle.ct_grammar.specs.declared.reports.estimate.Estimate.{Estimate}
 use Rattle.ct_grammar.specs.declared.fact.Fact.{Fact}
 use Rattle.ct_grammar.specs.declared.fact.Fact.TheVariants.{Up, Crashed, Idle, Instance, Round, Phase as InPhase}
 use Rattle.ct_grammar.specs.declared.fact.Fact.TheVariants.{Received, Decided, Delivered, Table, Refuses}

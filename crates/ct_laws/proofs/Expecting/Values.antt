@@ -16,11 +16,11 @@ use Rattle.ct_model.specs.declared.wire.Wire.{Wire}
 use Rattle.ct_model.specs.Received.{decided}
 use Rattle.ct_grammar.specs.contracts.reason.ReasonPartialEq.TheImpl.{ghosts as reasons}
 use Rattle.ct_grammar.specs.declared.claim.Name.{Name}
-use Rattle.ct_grammar.specs.declared.decision.Decision.{Decision}
-use Rattle.ct_grammar.specs.declared.estimate.Estimate.{Estimate}
+use Rattle.ct_grammar.specs.declared.reports.decision.Decision.{Decision}
+use Rattle.ct_grammar.specs.declared.reports.estimate.Estimate.{Estimate}
 use Rattle.ct_grammar.specs.declared.reason.Reason.{Reason}
-use Rattle.ct_play.specs.Facts.{are_decided, are_named, are_those, decision_count, is_among, is_decided, is_estimate, is_named}
-use Rattle.ct_laws.specs.Expectations.{AreDecided, AreThose, IsDecided, the_name}
+use Rattle.ct_play.specs.Facts.{are_decided, are_named, are_those, decision_count, is_among, is_decided, is_estimate, is_named, the_name}
+use Rattle.ct_laws.specs.Expectations.{AreDecided, AreThose, IsDecided}
 
 -- ---- phases and reasons
 

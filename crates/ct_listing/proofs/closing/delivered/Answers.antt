@@ -1,5 +1,5 @@
 use Rattle.std.proofs.Common.{ap, map, ◌∙◌}
-use Rattle.ct_listing.specs.Expecting.{the_name}
+use Rattle.ct_play.specs.Facts.{the_name}
 use Rattle.ct_listing.proofs.Reported.{delivered_there, of_the_group}
 use Rattle.ct_listing.proofs.closing.delivered.Goals as goal
 

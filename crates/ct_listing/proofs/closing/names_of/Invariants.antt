@@ -1,6 +1,6 @@
 use Rattle.std.proofs.Common.{◌≡◌, map, take}
 use Rattle.ct_print.specs.Writable.{NamesFit}
-use Rattle.ct_listing.specs.Expecting.{the_name}
+use Rattle.ct_play.specs.Facts.{the_name}
 use Rattle.ct_listing.proofs.closing.names_of.Given as goal
 
 -- the names of the messages so far, each of which is one of its types

@@ -1,6 +1,6 @@
 use Rattle.std.specs.Prelude.{◌++◌, string_bytes, map}
 use Rattle.std.proofs.Common.{ap, ◌∙◌}
-use Rattle.ct_grammar.specs.declared.decision.Decision.{Decision}
+use Rattle.ct_grammar.specs.declared.reports.decision.Decision.{Decision}
 use Rattle.ct_print.specs.Reports.{decision_text}
 use Rattle.ct_text.proofs.Joins.{join_starts, join_goes}
 use Rattle.ct_print.proofs.reports.push_decisions.Goals as goal

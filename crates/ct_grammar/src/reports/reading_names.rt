@@ -1,11 +1,14 @@
 //! The names of messages, and what stands behind instances and registers, in words.
 
-ghost use Rattle.std.specs.Prelude.{◌≡◌, IfOk, option_map};
-ghost use Rattle.ct_grammar.specs.Names.{decision_of, name_of, names_or_dash, names_within, value_of, with_register, within_braces};
+ghost use Rattle.std.specs.Prelude.{◌≡◌, IfOk, map, nat_eq, option_map, string_bytes, codes};
+ghost use Rattle.std.specs.List.{ends_with};
+ghost use Rattle.ct_grammar.specs.Names.{decision_of, glued, listed_first, listed_in, more_first, name_of, names_or_dash};
+ghost use Rattle.ct_grammar.specs.Names.{names_within, shortened, value_of, with_register, within_braces};
 
+use super::decision::Decision;
+use super::listed::Listed;
+use super::names::Names;
 use crate::claim::Name;
-use crate::decision::Decision;
-use crate::names::Names;
 use crate::numbers::{name_of_message, number_in, parted};
 use ct_names::{Command, Instance, REGISTERS};
 use ct_table::Table;
@@ -104,6 +107,102 @@ pub(crate) fn value(alloc: Global, word: &[u8]) -> Result<Option<Names>, AllocEr
                 names_within(alloc, names)
             }
         }
+    }
+}
+
+/// The word, and the words behind it as long as that ends with a comma; and the words behind them.
+pub(crate) fn glued<'w, 'a>(
+    alloc: Global,
+    word: &str,
+    words: &'w [&'a str],
+) -> Result<(String, &'w [&'a str]), AllocError>
+    ensures { IfOk result (λ r. (string_bytes r.0, map (λ word. word.now) r.1.now) ≡ glued word.now (map (λ word. word.now) words.now)) }
+{
+    let mut whole = String::new(alloc);
+    whole.push_str(word)?;
+    let mut rest = words;
+    while let [next, behind @ ..] = rest {
+        if !goes_on(whole.as_bytes()) {
+            return Ok((whole, rest));
+        }
+        whole.push_str(next)?;
+        rest = behind;
+    }
+    Ok((whole, rest))
+}
+
+// Whether the word ends with a comma.
+fn goes_on(word: &[u8]) -> bool
+    ensures { result ≡ ends_with nat_eq word.now (codes ",") }
+{
+    word.ends_with(b",")
+}
+
+/// The messages of a value, and the words behind them.
+#[tactic(auto, unfolding(crate::specs::Names::listed_first))]
+pub(crate) fn listed<'w, 'a>(
+    alloc: Global,
+    word: &str,
+    words: &'w [&'a str],
+) -> Result<Option<(Listed, &'w [&'a str])>, AllocError>
+    ensures { IfOk result (λ r. option_map (λ r. (r.0, map (λ word. word.now) r.1.now)) r
+        ≡ listed_first word.now (map (λ word. word.now) words.now)) }
+{
+    let (whole, rest) = glued(alloc, word, words)?;
+    listed_in(alloc, whole.as_bytes(), rest)
+}
+
+// All messages of a value; otherwise some, and how many more there are.
+#[tactic(auto, unfolding(crate::specs::Names::listed_in))]
+fn listed_in<'w, 'a>(
+    alloc: Global,
+    word: &[u8],
+    words: &'w [&'a str],
+) -> Result<Option<(Listed, &'w [&'a str])>, AllocError>
+    ensures { IfOk result (λ r. option_map (λ r. (r.0, map (λ word. word.now) r.1.now)) r
+        ≡ listed_in word.now (map (λ word. word.now) words.now)) }
+{
+    match value(alloc, word)? {
+        Some(names) => Ok(Some((Listed { names, more: 0 }, words))),
+        None => shortened(alloc, word, words),
+    }
+}
+
+// Some messages of a value, and how many more there are.
+#[tactic(auto, unfolding(crate::specs::Names::shortened))]
+fn shortened<'w, 'a>(
+    alloc: Global,
+    word: &[u8],
+    words: &'w [&'a str],
+) -> Result<Option<(Listed, &'w [&'a str])>, AllocError>
+    ensures { IfOk result (λ r. option_map (λ r. (r.0, map (λ word. word.now) r.1.now)) r
+        ≡ shortened word.now (map (λ word. word.now) words.now)) }
+{
+    let [b'{', inside @ ..] = word else {
+        return Ok(None);
+    };
+    let Some((more, rest)) = more_first(words) else {
+        return Ok(None);
+    };
+    match names_within(alloc, inside)? {
+        None => Ok(None),
+        Some(names) => Ok(Some((Listed { names, more }, rest))),
+    }
+}
+
+// `and N more}`, and the words behind that.
+#[tactic(auto, unfolding(crate::specs::Names::more_first))]
+fn more_first<'w, 'a>(words: &'w [&'a str]) -> Option<(u32, &'w [&'a str])>
+    ensures { option_map (λ r. (r.0, map (λ word. word.now) r.1.now)) result ≡ more_first (map (λ word. word.now) words.now) }
+{
+    let [and, count, more, rest @ ..] = words else {
+        return None;
+    };
+    if *and == "and" && *more == "more}" {
+        let n = number_in(count.as_bytes(), 1, u32::MAX as u64)?;
+        Some((n as u32, rest))
+    } else {
+        None
     }
 }
 

@@ -1,8 +1,8 @@
-use Rattle.std.proofs.Common.{◌≡◌, [], length}
+use Rattle.std.proofs.Common.{◌≡◌, length}
 use Rattle.ct_table.specs.Table.{zeros}
 use Rattle.ct_grammar.specs.Reports.{with_registers}
 use Rattle.ct_grammar.proofs.WordsCut.{read}
-use Rattle.ct_grammar.proofs.reporting.registers.Given as goal
+use Rattle.ct_grammar.proofs.reports.reporting.registers.Given as goal
 
 -- the words of the rest are still to come
 abbrev pub invariant-loop-rest : goal.invariant-loop-rest

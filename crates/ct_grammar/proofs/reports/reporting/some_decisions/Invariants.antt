@@ -1,7 +1,7 @@
 use Rattle.std.proofs.Common.{◌≡◌, [], length}
 use Rattle.ct_grammar.specs.Reports.{with_decisions}
 use Rattle.ct_grammar.proofs.WordsCut.{read}
-use Rattle.ct_grammar.proofs.reporting.some_decisions.Given as goal
+use Rattle.ct_grammar.proofs.reports.reporting.some_decisions.Given as goal
 
 -- the words of the rest are still to come
 abbrev pub invariant-loop-rest : goal.invariant-loop-rest

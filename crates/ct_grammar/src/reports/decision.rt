@@ -1,6 +1,6 @@
 //! What was decided for an instance.
 
-use crate::names::Names;
+use super::names::Names;
 use ct_names::Instance;
 
 /// What was decided for an instance, as `2:1.1,3.1`.

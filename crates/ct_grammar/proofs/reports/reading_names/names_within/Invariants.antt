@@ -1,7 +1,7 @@
 use Rattle.std.proofs.Common.{◌≡◌, length, ◌==◌}
 use Rattle.std.specs.List.{slice_split}
 use Rattle.ct_grammar.specs.Names.{names_behind, names_within}
-use Rattle.ct_grammar.proofs.reading_names.names_within.Given as goal
+use Rattle.ct_grammar.proofs.reports.reading_names.names_within.Given as goal
 
 -- the names of the rest are still to come
 abbrev pub invariant-loop-part : goal.invariant-loop-part

@@ -2,7 +2,7 @@
 
 ghost use Rattle.std.specs.Prelude.{◌≡◌};
 
-use crate::decision::Decision;
+use super::decision::Decision;
 use std::marker::Model;
 
 /// Decisions, of rising instances.
@@ -14,7 +14,7 @@ pub struct Decisions {
 // Contracts see the list of them.
 impl Model for Decisions {
     ghost use Rattle.std.specs.Prelude.{List};
-    ghost use Rattle.ct_grammar.specs.declared.decision.Decision.{Decision};
+    ghost use Rattle.ct_grammar.specs.declared.reports.decision.Decision.{Decision};
 
     ghost Value = { List Decision };
 

@@ -5,11 +5,11 @@ ghost use Rattle.ct_table.specs.Table.{zeros};
 ghost use Rattle.ct_grammar.specs.Reports.{adopted_of, decisions_of, estimate_of, lone_dash, messages_of, table_of, ts_of};
 ghost use Rattle.ct_grammar.specs.Reports.{with_decisions, with_names, with_registers};
 
-use crate::decisions::Decisions;
-use crate::estimate::Estimate;
+use super::decisions::Decisions;
+use super::estimate::Estimate;
+use super::names::Names;
+use super::reading_names::{decision, glued, name, value, with_register};
 use crate::leading::{behind_term, lone_whole, over};
-use crate::names::Names;
-use crate::reading_names::{decision, name, value, with_register};
 use crate::unfit::Unfit;
 use crate::wanted::Wanted;
 use ct_names::Round;
@@ -120,9 +120,9 @@ pub(crate) fn table(words: &[&str]) -> Result<Table, Unfit>
     }
 }
 
-// `ts` and a round, alone.
+/// `ts` and a round, alone.
 #[tactic(auto, unfolding(crate::specs::Reports::ts_of))]
-fn ts(words: &[&str]) -> Result<Round, Unfit>
+pub(crate) fn ts(words: &[&str]) -> Result<Round, Unfit>
     ensures { result ≡ ts_of (map (λ word. word.now) words.now) }
 {
     let [word, rest @ ..] = words else {
@@ -143,10 +143,11 @@ fn adopted(alloc: Global, words: &[&str]) -> Result<Result<Estimate, Unfit>, All
     let [word, rest @ ..] = words else {
         return Ok(Err(Unfit::End(Wanted::Estimate)));
     };
-    let Some(names) = value(alloc, word.as_bytes())? else {
+    let (whole, behind) = glued(alloc, word, rest)?;
+    let Some(names) = value(alloc, whole.as_bytes())? else {
         return Ok(Err(Unfit::before(rest, Wanted::Estimate)));
     };
-    match ts(rest) {
+    match ts(behind) {
         Ok(ts) => Ok(Ok(Estimate { names, ts })),
         Err(unfit) => {
             drop(names);
@@ -164,10 +165,7 @@ pub(crate) fn estimate(
     ensures { IfOk result (λ estimate. estimate ≡ estimate_of (map (λ word. word.now) words.now)) }
 {
     match lone_dash(words, Wanted::Estimate) {
-        None => match adopted(alloc, words)? {
-            Ok(estimate) => Ok(Ok(Some(estimate))),
-            Err(unfit) => Ok(Err(unfit)),
-        },
+        None => Ok(adopted(alloc, words)?.map(Some)),
         Some(Ok(())) => Ok(Ok(None)),
         Some(Err(unfit)) => Ok(Err(unfit)),
     }

@@ -1,7 +1,7 @@
 use Rattle.std.proofs.Common.{◌≡◌, [], length}
 use Rattle.ct_grammar.specs.Reports.{with_names}
 use Rattle.ct_grammar.proofs.WordsCut.{read}
-use Rattle.ct_grammar.proofs.reporting.names.Given as goal
+use Rattle.ct_grammar.proofs.reports.reporting.names.Given as goal
 
 -- the words of the rest are still to come
 abbrev pub invariant-loop-rest : goal.invariant-loop-rest

@@ -1,6 +1,6 @@
 //! Estimates, by the names of their messages.
 
-use crate::names::Names;
+use super::names::Names;
 use ct_names::Round;
 
 /// An estimate, as `{1.1,3.1} ts 2`.
