@@ -7,4 +7,5 @@ pub mod Nearest
 pub mod Outside
 pub mod Rounds
 pub mod Trying
+pub mod Turning
 pub mod Untils

@@ -45,7 +45,7 @@ chance_until : (w : Walk) → (after_chance w).until ≡ w.until
 unfolding after_chance
 chance_until w = either_until (has_left w 4) (record w { draws = after_word w.draws }) w w.until refl refl
 
-turned_until : (o : WalkOptions) (number : ℕ) (w : Walk) → (turned o number w).until ≡ w.until
+pub turned_until : (o : WalkOptions) (number : ℕ) (w : Walk) → (turned o number w).until ≡ w.until
 unfolding turned
 turned_until o number w =
     let u = after_chance (changed_now w) in

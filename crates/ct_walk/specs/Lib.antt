@@ -1,6 +1,7 @@
 pub mod Options
 pub mod Adversary
 pub mod Walking
+pub mod Turns
 pub mod Shown
 pub mod Sights
 pub mod Nearness

@@ -1,6 +1,6 @@
 use Rattle.std.proofs.Common.{◌∙◌, ap, sym, length}
 use Rattle.ct_walk.proofs.Entries.{few-entries}
-use Rattle.ct_walk.proofs.walker.Walker.new.Goals as goal
+use Rattle.ct_walk.proofs.draws.Draws.new.Goals as goal
 
 pub returns-clause-few : goal.returns-clause-few
 returns-clause-few c =
