@@ -1,13 +1,13 @@
-/* A rehearsal of Chandra and Toueg's atomic broadcast, in process: worlds, whose steps are typed calls, and sessions, which are told
-   lines of schedules. README.md of this folder says what of it is proved and how to link.
+/* A rehearsal of Chandra and Toueg's atomic broadcast, in process: worlds, whose steps are typed calls, walks, which draw steps at random
+   from a seed, and sessions, which are told lines of schedules. README.md of this folder says what of it is proved and how to link.
 
-   Worlds and sessions are structs of the caller's. Each is zeros at first (`ct_world w = {0};`) and zeros again once it is closed.
+   Worlds, walks and sessions are structs of the caller's. Each is zeros at first (`ct_world w = {0};`) and zeros again once it is closed.
    The library keeps what it allocated in them: never copy one, never write to one, close each that was opened.
 
-   Threads: at most one call at a time on a world or a session. Between calls it may pass to another thread, where the one call happens
-   before the other (behind a lock, a join or a queue). Different ones may be used on different threads at the same time. No call waits,
-   locks, or uses a signal or a static variable. Don't call the library in a signal handler, or in the child of a fork of a process with
-   threads.
+   Threads: at most one call at a time on a world, a walk or a session. Between calls it may pass to another thread, where the one call
+   happens before the other (behind a lock, a join or a queue). Different ones may be used on different threads at the same time. No call
+   waits, locks, or uses a signal or a static variable. Don't call the library in a signal handler, or in the child of a fork of a process
+   with threads.
 
    Pointers: none may be null, but that to a room or to bytes whose length is 0; gcc and clang warn of a null that they see. Two pointers
    that are passed to one call must not overlap; `ct_copy` refuses a world that is copied into itself.
@@ -71,13 +71,14 @@ enum {
     CT_FULL_STEPS = 22,       /* the record has 1,000,000 steps */
     CT_OUT_OF_MEMORY = 23,    /* malloc or realloc refused */
     CT_BOARD = 24,            /* the board of batches refused one; the world's own board doesn't */
-    CT_NOT_OPEN = 25,         /* the world or the session is closed */
+    CT_NOT_OPEN = 25,         /* the world, the walk or the session is closed */
     CT_ALREADY_OPEN = 26,     /* it is open: close it first */
     CT_BAD_STEP = 27,         /* no step has these numbers: see ct_step */
     CT_BAD_SETUP = 28,        /* not 1 to 16 members, more than 1,024 cells, or a bound that is not 1 to 1,048,560 */
     CT_NO_WORLD = 29,         /* the session was told no step yet, so there is no group to speak of */
     CT_TOO_LONG = 30,         /* the run has more steps than a diagram shows */
-    CT_NO_RECORD = 31         /* the text is no record */
+    CT_NO_RECORD = 31,        /* the text is no record */
+    CT_BAD_OPTIONS = 32       /* an option of a walk is out of its range: see ct_walk_options */
 };
 
 /* The name of what a call answers, as records and schedules have it: "TooFew", "Full(Cells)"; "?" of another number. */
@@ -87,7 +88,7 @@ ct_refusal_name(uint32_t refusal) {
         "Done", "NoSuchMember", "Crashed", "NotWaiting", "Busy", "Nothing", "Idle", "WrongPhase", "Decided", "TooFew", "NotLargest",
         "NoProposal", "HasProposal", "Undecided", "BadCommand", "NotSent", "StillWaiting", "Full(Submissions)", "Full(Instances)",
         "Full(Rounds)", "Full(Envelopes)", "Full(Cells)", "Full(Steps)", "OutOfMemory", "Board", "NotOpen", "AlreadyOpen", "BadStep",
-        "BadSetup", "NoWorld", "TooLong", "NoRecord",
+        "BadSetup", "NoWorld", "TooLong", "NoRecord", "BadOptions",
     };
     return refusal < sizeof names / sizeof *names ? names[refusal] : "?";
 }
@@ -263,6 +264,65 @@ size_t ct_delivered(const ct_world *world, uint8_t member, ct_message *room, siz
 
 /* The values of the member's 16 registers, after the commands of what it delivered. */
 size_t ct_table(const ct_world *world, uint8_t member, uint64_t *room, size_t length) CT_NONNULL(1);
+
+/* ---- walks */
+
+/* A walk, the random run that `ct_tool walk` makes of options, asked turn by turn what it tries next. The caller applies the step in a
+   world of its own, or doesn't; the turns behind go by the world as it stands then. Where each step is applied in a world that was opened
+   with the members, the cells and the batch of the options, the record is the one that `ct_tool walk` prints. */
+typedef struct {
+    void *at;
+    bool is_open;
+} ct_walk;
+
+/* The options of a walk, under their names in `ct_tool walk --help`, which says what each does. */
+typedef struct {
+    uint32_t turns;    /* up to 100,000, for each member */
+    uint32_t seed;
+    uint32_t batch;    /* 1 to 1,048,560 */
+    uint32_t every;    /* up to 100,000 */
+    uint16_t rate;     /* up to 256, as are scatter and lasting */
+    uint16_t cells;    /* up to 1,024 */
+    uint16_t submit;   /* up to 1,000, as are postpone, lose, repeat and cut */
+    uint16_t postpone;
+    uint16_t lose;
+    uint16_t repeat;
+    uint16_t scatter;
+    uint16_t lasting;
+    uint16_t cut;
+    uint8_t members;   /* 1 to 16 */
+    uint8_t crash;     /* a member, or 0 */
+    uint8_t crashes;   /* fewer than half of the members */
+} ct_walk_options;
+
+/* The options of `ct_tool walk --members .. --seed ..`: all others are as where they aren't given. */
+static inline ct_walk_options
+ct_walk_usual(uint8_t members, uint32_t seed) {
+    ct_walk_options usual = {1000, seed, 1048560, 0, 64, 64, 8, 0, 0, 0, 0, 0, 0, members, 0, 0};
+    return usual;
+}
+
+/* What a turn comes to. */
+enum {
+    CT_TURN_STEP = 1, /* the step is tried: where the rules refuse it, the next turn is asked for all the same */
+    CT_TURN_REST = 2, /* nothing is tried */
+    CT_TURN_OVER = 3  /* all turns were made */
+};
+
+/* A turn. */
+typedef struct {
+    ct_step step; /* of CT_TURN_STEP; else its kind is 0 */
+    uint8_t kind; /* CT_TURN_STEP to CT_TURN_OVER; 0: the walk or the world is closed */
+} ct_turn;
+
+/* Opens a walk before its first turn. CT_DONE, CT_ALREADY_OPEN, CT_BAD_OPTIONS or CT_OUT_OF_MEMORY. */
+uint32_t ct_walk_open(ct_walk *walk, const ct_walk_options *options) CT_NONNULL(1, 2);
+
+/* Closes it, if it is open. */
+void ct_walk_close(ct_walk *walk) CT_NONNULL(1);
+
+/* The walk's next turn, in this world as it stands; where one of both is closed the other stays as it is. It asks for no memory. */
+ct_turn ct_walk_turn(ct_walk *walk, const ct_world *world) CT_NONNULL(1, 2);
 
 /* ---- sessions */
 

@@ -1,7 +1,7 @@
 #!/usr/bin/env bash
 # Tests of the bindings: that worlds and sessions answer the same in every language, which is what `ct_tool` answers over a pipe, that
-# numbers and names are those of the crate, and what the library and the wrappers do with wrong calls, with memory that is refused, and
-# with thousands of handles.
+# walks make the records of `ct_tool walk`, that numbers and names are those of the crate, and what the library and the wrappers do with
+# wrong calls, with memory that is refused, and with thousands of handles.
 #
 #     bindings/test.sh [CT_TOOL]
 #
@@ -79,6 +79,7 @@ same() {
     shift
     names+=("$* names")
     check "worlds, in $language" gives "$folder/worlds_answered" "$@" worlds "$folder/worlds_asked"
+    check "walks, in $language" gives "$folder/walks_answered" "$@" walks "$folder/walks_asked"
     if [[ $language != C ]]; then
         check "sessions, in $language" gives "$folder/sessions_answered" "$@" sessions "$folder/sessions_asked"
         check "10,000 worlds and sessions, in $language" "${bound[@]}" "$@" many 10000
@@ -132,6 +133,7 @@ check 'building refused' build refused tests/refused.c -Wl,--wrap=malloc,--wrap=
 check 'each allocation refused in turn' "$folder/refused"
 
 check 'what is asked' python3 tests/asking.py "$folder"
+check 'walks of ct_tool' python3 tests/walking.py "$tool" "$folder"
 check 'worlds, over a pipe' over_pipe worlds
 check 'sessions, over a pipe' over_pipe sessions
 check 'building asked' build asked tests/asked.c "${asan[@]}"

@@ -122,6 +122,43 @@ func TestStanding(t *testing.T) {
 	}
 }
 
+// asked has that walks are those of ct_tool.
+func TestWalk(t *testing.T) {
+	options := UsualWalk(1, 7)
+	options.Turns, options.Submit, options.Every = 1, 1, 1
+	walk, err := OpenWalk(options)
+	if err != nil {
+		t.Fatal(err)
+	}
+	world, err := Open(3, 4, MaxBound)
+	if err != nil {
+		t.Fatal(err)
+	}
+	first := Turn{TurnStep, Step{Kind: Submit, Member: 1, Command: Command{Kind: Add, Value: 1}}}
+	if turn, err := walk.Turn(world); err != nil || turn != first {
+		t.Fatal(turn, err)
+	}
+	if _, err := walk.Turn(world); err != nil {
+		t.Fatal(err)
+	}
+	if turn, err := walk.Turn(world); err != nil || turn.Kind != TurnOver {
+		t.Fatal(turn, err)
+	}
+	world.Close()
+	if _, err := walk.Turn(world); err != NotOpen {
+		t.Fatal(err)
+	}
+	walk.Close()
+	walk.Close()
+	if _, err := walk.Turn(world); err != NotOpen {
+		t.Fatal(err)
+	}
+	options.Crash = 2
+	if _, err := OpenWalk(options); err != BadOptions {
+		t.Fatal(err)
+	}
+}
+
 func TestWrongUses(t *testing.T) {
 	if _, err := Open(17, 4, MaxBound); err != BadSetup {
 		t.Fatal(err)

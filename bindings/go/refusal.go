@@ -42,6 +42,7 @@ const (
 	NoWorld         Refusal = C.CT_NO_WORLD
 	TooLong         Refusal = C.CT_TOO_LONG
 	NoRecord        Refusal = C.CT_NO_RECORD
+	BadOptions      Refusal = C.CT_BAD_OPTIONS
 )
 
 var names = [...]string{
@@ -76,6 +77,7 @@ var names = [...]string{
 	NoWorld:         "NoWorld",
 	TooLong:         "TooLong",
 	NoRecord:        "NoRecord",
+	BadOptions:      "BadOptions",
 }
 
 // Error gives the refusal's name, as records and schedules have it: "TooFew", "Full(Cells)".

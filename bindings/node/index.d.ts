@@ -1,6 +1,6 @@
 /** A rehearsal of Chandra and Toueg's atomic broadcast, in process, to test implementations against: each step that an implementation takes
- *  is told to a `World`, which does it, or says why the algorithm refuses it. A `Session` is told lines of a schedule instead, and answers
- *  each (docs/SCHEDULES.md). Both are WebAssembly, for node 18 and later and for browsers. */
+ *  is told to a `World`, which does it, or says why the algorithm refuses it. A `Walk` draws the steps of a random run. A `Session` is told
+ *  lines of a schedule instead, and answers each (docs/SCHEDULES.md). All are WebAssembly, for node 18 and later and for browsers. */
 
 /** Over 16 registers of 64 bits: a register and a value, a register and an amount, or two registers, of which the second gets the value of
  *  the first. What is read has BigInts as values and amounts; what is told may have numbers, up to 2^53 - 1. */
@@ -102,6 +102,27 @@ export class World {
   /** A world of its own with the same setup and record. It takes as long as replaying the record. */
   copy(): World;
   /** Lets go what it keeps; the garbage collector does so too, but sees little of it. */
+  close(): void;
+}
+
+/** The options of `ct_tool walk`, whose help says what each does and its range. */
+export interface WalkOptions {
+  turns?: number; seed?: number; rate?: number; cells?: number; submit?: number; crash?: number; postpone?: number; lose?: number;
+  repeat?: number; batch?: number; every?: number; scatter?: number; lasting?: number; crashes?: number; cut?: number;
+}
+
+/** The random run that `ct_tool walk` makes of options, asked turn by turn what it tries next. The caller applies the step in a world of
+ *  its own, or doesn't; the turns behind go by the world as it stands then. Where each is applied in what `world` makes, the record is the
+ *  one that `ct_tool walk` prints. An option out of its range is a RangeError; of a walk or a world that is closed the error's `code` is
+ *  "NotOpen". */
+export class Walk {
+  constructor(members: number, options?: WalkOptions);
+  readonly members: number;
+  /** A world without steps, with the setup of the one that `ct_tool walk` makes. */
+  world(): World;
+  /** The step that the next turn tries, in this world as it stands: where the rules refuse it, the next turn is asked for all the same.
+   *  "rest" where it tries none, "over" where all turns were made. */
+  turn(world: World): Step | "rest" | "over";
   close(): void;
 }
 

@@ -5,6 +5,7 @@ import { held, run } from "./system.js";
 
 export { Session } from "./session.js";
 export { LineRefused, REFUSALS, Refused, StepRefused } from "./steps.js";
+export { Walk } from "./walk.js";
 export { MAX_BOUND, MAX_CELLS, MAX_MEMBERS, World } from "./world.js";
 
 // The bytes of a file beside this one.

@@ -7,7 +7,7 @@ import { envelopeAt, messageAt, standingAt, stepAt } from "./steps.js";
 export const MAX_MEMBERS = 16;
 export const MAX_CELLS = 1024;
 export const MAX_BOUND = 1048560;
-const USUAL_CELLS = 64;
+export const USUAL_CELLS = 64;
 const [NOT_OPEN, NO_RECORD] = [25, 31];
 const [CRASHED, CRASH] = [2, 11];
 const VALUE_BYTES = 8;

@@ -1,5 +1,5 @@
-/* asked names: the names of what calls answer, by number. asked worlds FILE: what worlds answer to the words of tests/asked.py, in the
-   same text. */
+/* asked names: the names of what calls answer, by number. asked worlds FILE: what worlds answer to the words of tests/asking.py, in the
+   same text. asked walks FILE: the records of walks with the options of tests/walking.py. */
 #include "ct.h"
 #include <inttypes.h>
 #include <stdio.h>
@@ -264,18 +264,50 @@ static void worlds(FILE *file) {
     ct_world_close(&now.world);
 }
 
+/* The options of a line, in the order of ct.h. */
+static ct_walk_options options_of(char *at) {
+    uint32_t n[16];
+    for (int i = 0; i < 16; i++) {
+        n[i] = (uint32_t)strtoul(at, &at, 10);
+    }
+    return (ct_walk_options){n[0], n[1], n[2], n[3], (uint16_t)n[4], (uint16_t)n[5], (uint16_t)n[6], (uint16_t)n[7], (uint16_t)n[8],
+                             (uint16_t)n[9], (uint16_t)n[10], (uint16_t)n[11], (uint16_t)n[12], (uint8_t)n[13], (uint8_t)n[14],
+                             (uint8_t)n[15]};
+}
+
+static void walks(FILE *file) {
+    char line[160];
+    while (fgets(line, sizeof line, file) != NULL) {
+        ct_walk walk = {0};
+        ct_walk_options options = options_of(line);
+        open((uint64_t[]){options.members, options.cells, options.batch});
+        if (ct_walk_open(&walk, &options) != CT_DONE) {
+            puts("not opened");
+        }
+        ct_turn turn;
+        while (turn = ct_walk_turn(&walk, &now.world), turn.kind == CT_TURN_STEP || turn.kind == CT_TURN_REST) {
+            if (turn.kind == CT_TURN_STEP) {
+                apply(turn.step.kind, turn.step.member, turn.step.a, turn.step.b, turn.step.c);
+            }
+        }
+        print_record(stdout, &now.world);
+        ct_walk_close(&walk);
+    }
+    ct_world_close(&now.world);
+}
+
 int main(int argc, char **argv) {
     if (argc == 2) {
-        for (uint32_t number = CT_DONE; number <= CT_NO_RECORD; number++) {
+        for (uint32_t number = CT_DONE; number <= CT_BAD_OPTIONS; number++) {
             printf("%" PRIu32 " %s\n", number, ct_refusal_name(number));
         }
-        return strcmp(ct_refusal_name(CT_NO_RECORD + 1), "?") != 0;
+        return strcmp(ct_refusal_name(CT_BAD_OPTIONS + 1), "?") != 0;
     }
     FILE *file = argc == 3 ? fopen(argv[2], "r") : NULL;
     if (file == NULL) {
         return 2;
     }
-    worlds(file);
+    (strcmp(argv[1], "walks") == 0 ? walks : worlds)(file);
     fclose(file);
     return 0;
 }

@@ -148,6 +148,55 @@ static void standing(void) {
     ct_world_close(&world);
 }
 
+/* There is no turn. */
+static bool has_no_turn(ct_walk *walk, const ct_world *world) {
+    ct_turn turn = ct_walk_turn(walk, world);
+    return turn.kind == 0 && turn.step.kind == 0 && turn.step.member == 0 && turn.step.a == 0 && turn.step.b == 0 && turn.step.c == 0;
+}
+
+/* Each option out of its range, where all others are usual. */
+static void bad_options(void) {
+    ct_walk walk = {0};
+    ct_walk_options bad[17];
+    size_t count = 0;
+    for (; count < sizeof bad / sizeof *bad; count++) {
+        bad[count] = ct_walk_usual(MEMBERS, UINT32_MAX);
+    }
+    bad[0].members = 0, bad[1].members = 17, bad[2].turns = 100001, bad[3].rate = 257, bad[4].cells = 1025, bad[5].submit = 1001;
+    bad[6].crash = 4, bad[7].postpone = 1001, bad[8].lose = 1001, bad[9].repeat = 1001, bad[10].batch = 0, bad[11].batch = 1048561;
+    bad[12].every = 100001, bad[13].scatter = 257, bad[14].lasting = 257, bad[15].crashes = 2, bad[16].cut = 1001;
+    for (size_t i = 0; i < count; i++) {
+        check("a bad option", ct_walk_open(&walk, &bad[i]) == CT_BAD_OPTIONS && !walk.is_open);
+    }
+    static const ct_walk_options most = {100000, UINT32_MAX, 1048560, 100000, 256, 1024, 1000, 1000, 1000, 1000, 256, 256, 1000, 16, 16, 7};
+    check("the largest options", ct_walk_open(&walk, &most) == CT_DONE && walk.is_open);
+    ct_walk_close(&walk);
+}
+
+static void walks(void) {
+    static const ct_world never = {0};
+    const ct_walk_options options = ct_walk_usual(MEMBERS, 7);
+    ct_walk walk = {0}, other = {0};
+    ct_world world = {0};
+    bad_options();
+    check("open", ct_world_open(&world, MEMBERS, options.cells, options.batch) == CT_DONE && has_no_turn(&walk, &world));
+    check("open", ct_walk_open(&walk, &options) == CT_DONE && ct_walk_open(&other, &options) == CT_DONE);
+    check("opened again", ct_walk_open(&walk, &options) == CT_ALREADY_OPEN && walk.is_open);
+    check("a closed world makes no turn", has_no_turn(&walk, &never));
+    for (int turns = 0; turns < 3008; turns++) {
+        ct_turn turn = ct_walk_turn(&walk, &world), same = ct_walk_turn(&other, &world);
+        check("the same turn", turn.kind == same.kind && turn.step.kind == same.step.kind && turn.step.a == same.step.a);
+        check("a turn", turn.kind == (turn.step.kind != 0 ? CT_TURN_STEP : CT_TURN_REST));
+        ct_apply(&world, turn.step.kind, turn.step.member, turn.step.a, turn.step.b, turn.step.c);
+    }
+    check("over", ct_walk_turn(&walk, &world).kind == CT_TURN_OVER && ct_walk_turn(&walk, &world).step.kind == 0);
+    check("all delivered", ct_delivered(&world, 1, NULL, 0) == 8);
+    ct_walk_close(&walk);
+    ct_walk_close(&other);
+    check("a closed walk", !walk.is_open && walk.at == NULL && has_no_turn(&walk, &world));
+    ct_world_close(&world);
+}
+
 static void lengths(void) {
     ct_world world = {0};
     uint32_t serials[4] = {9, 9, 9, 9};
@@ -314,6 +363,7 @@ int main(void) {
     setups();
     order();
     standing();
+    walks();
     lengths();
     nothing();
     records();

@@ -1,4 +1,4 @@
-/* Opens 20,000 worlds and sessions, does steps on them, copies, refuses and closes them. Under ASan and its leak check there is neither
+/* Opens 20,000 worlds, walks and sessions, does steps on them, copies, refuses and closes them. Under ASan and its leak check there is neither
    fault nor leak; without it the memory in use is about what it was after the first thousand: less than four bytes a handle more. */
 #include "ct.h"
 #include <malloc.h>
@@ -24,12 +24,26 @@ static void steps(ct_world *world, int turns) {
     }
 }
 
+/* Turns of a walk in the world. */
+static void walks(ct_world *world, int turns) {
+    ct_walk walk = {0};
+    ct_walk_options options = ct_walk_usual((uint8_t)(turns % 5), (uint32_t)turns);
+    ct_walk_open(&walk, &options);
+    for (int i = 0; i < turns; i++) {
+        ct_step step = ct_walk_turn(&walk, world).step;
+        ct_apply(world, step.kind, step.member, step.a, step.b, step.c);
+    }
+    ct_walk_close(&walk);
+    ct_walk_close(&walk);
+}
+
 static bool with_world(int number) {
     ct_world world = {0}, other = {0};
     if (ct_world_open(&world, 3, 4, 1048560) != CT_DONE) {
         return false;
     }
     steps(&world, number % TURNS);
+    walks(&world, number % TURNS);
     if (number % 3 == 0) {
         ct_copy(&world, &other);
         steps(&other, 2);

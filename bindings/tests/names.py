@@ -19,11 +19,12 @@ import malletochre   # noqa: E402
 from malletochre import library   # noqa: E402
 
 CAUSES = set(range(1, 25))
-STATUSES = "DONE", "OUT_OF_MEMORY", "BOARD", "NOT_OPEN", "BAD_SETUP", "NO_WORLD", "TOO_LONG"
+STATUSES = "DONE", "OUT_OF_MEMORY", "BOARD", "NOT_OPEN", "BAD_SETUP", "NO_WORLD", "TOO_LONG", "BAD_OPTIONS"
 CRATE = "../../crates/ct_embed"
 KINDS = {"StepCodes": r"step_code \((\w+) .*\) = \w*code (\d+) ", "MessageCodes": r"told_code .* \((\w+) .*command = (\d+)",
          "LetterCodes": r"wire_code to \((\w+) .*vote_code (\d+) ",   # how definitions have the numbers of steps, commands, envelopes
-         "StandingCodes": r"phase_code (\w+) = (\d+)"}                 # and phases
+         "StandingCodes": r"phase_code (\w+) = (\d+)",                # phases
+         "WalkCodes": r"turn_code \(?(\w+).*kind = (\d+)"}             # and turns
 
 
 def text(path: str) -> str:
@@ -42,13 +43,13 @@ def of_header() -> Dict[int, str]:
 
 
 def enums() -> List[str]:
-    """Those of the header: what calls answer, and the kinds of steps, commands, envelopes and phases."""
+    """Those of the header: what calls answer, and the kinds of steps, commands, envelopes, phases and turns."""
     return re.findall(r"\nenum \{\n(.*?)\n\};", text("../ct.h"), re.DOTALL)
 
 
 def same_kinds() -> bool:
     """The numbers of kinds are those of the definitions."""
-    header = [dict(re.findall(r"CT_([A-Z]+) = (\d+)", enum)) for enum in enums()[1:]]
+    header = [dict(re.findall(r"CT_(?:TURN_)?([A-Z]+) = (\d+)", enum)) for enum in enums()[1:]]
     crate = [{name.upper(): number for name, number in re.findall(pattern, text(f"{CRATE}/specs/{file}.antt"))}
              for file, pattern in KINDS.items()]
     return header == crate

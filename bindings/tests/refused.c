@@ -86,6 +86,23 @@ static bool turns(ct_world *world) {
     return good;
 }
 
+/* A walk, opened where memory may be refused, whose turns ask for none. */
+static bool walks(const ct_world *world) {
+    ct_walk walk = {0};
+    ct_walk_options options = ct_walk_usual(3, 7);
+    options.postpone = 9;
+    bool before = has_refused;
+    uint32_t status = ct_walk_open(&walk, &options);
+    bool good = is_told(status, before) && (status == CT_DONE) == walk.is_open;
+    long asked_before = asked;
+    for (int i = 0; i < 99; i++) {
+        good = good && (ct_walk_turn(&walk, world).kind != 0) == walk.is_open;
+    }
+    good = good && asked == asked_before;
+    ct_walk_close(&walk);
+    return good;
+}
+
 static bool worlds(void) {
     ct_world world = {0}, other = {0};
     bool before = has_refused;
@@ -96,7 +113,7 @@ static bool worlds(void) {
     }
     good = good && turns(&world);
     ample_steps = refused_at == NEVER ? steps_of(&world) : ample_steps;
-    good = good && steps_of(&world) == ample_steps;
+    good = good && steps_of(&world) == ample_steps && walks(&world);
     before = has_refused;
     status = ct_copy(&world, &other);
     good = good && is_told(status, before) && (status == CT_DONE) == other.is_open;

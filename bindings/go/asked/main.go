@@ -1,5 +1,5 @@
 // Asked prints what worlds and sessions answer, as the same program in other languages does: bindings/python/tests/asked.py says how it is
-// called, bindings/tests/asking.py what it reads. `asked lines FILE` tells a session the lines of a file, and prints the answers.
+// called, bindings/tests/asking.py and walking.py what it reads. `asked lines FILE` tells a session the lines of a file, and prints the answers.
 package main
 
 import (
@@ -228,6 +228,28 @@ func worlds(text string) {
 	}
 }
 
+// walks prints the records of walks with these options, which are in the order of ct.h.
+func walks(text string) {
+	for _, line := range strings.Split(strings.TrimSuffix(text, "\n"), "\n") {
+		n := [16]uint32{}
+		for i, word := range strings.Split(line, " ") {
+			n[i] = uint32(must(strconv.ParseUint(word, 10, 32)))
+		}
+		walk := must(it.OpenWalk(it.WalkOptions{Turns: n[0], Seed: n[1], Batch: n[2], Every: n[3], Rate: uint16(n[4]), Cells: uint16(n[5]),
+			Submit: uint16(n[6]), Postpone: uint16(n[7]), Lose: uint16(n[8]), Repeat: uint16(n[9]), Scatter: uint16(n[10]),
+			Lasting: uint16(n[11]), Cut: uint16(n[12]), Members: uint8(n[13]), Crash: uint8(n[14]), Crashes: uint8(n[15])}))
+		made := must(it.Open(uint8(n[13]), uint16(n[5]), n[2]))
+		for turn := must(walk.Turn(made)); turn.Kind != it.TurnOver; turn = must(walk.Turn(made)) {
+			if turn.Kind == it.TurnStep {
+				_, _, _ = made.Apply(turn.Step)
+			}
+		}
+		fmt.Fprintln(out, must(made.Record()))
+		walk.Close()
+		made.Close()
+	}
+}
+
 func sessions(text string) {
 	session := must(it.OpenSession())
 	for _, line := range strings.Split(strings.TrimSuffix(text, "\n"), "\n") {
@@ -294,6 +316,8 @@ func main() {
 		many(must(strconv.Atoi(os.Args[2])))
 	case "worlds":
 		worlds(string(must(os.ReadFile(os.Args[2]))))
+	case "walks":
+		walks(string(must(os.ReadFile(os.Args[2]))))
 	case "sessions":
 		sessions(string(must(os.ReadFile(os.Args[2]))))
 	case "lines":

@@ -1,10 +1,10 @@
 // Prints what worlds and sessions answer, as the same program in other languages does: bindings/python/tests/asked.py says how it is
-// called, bindings/tests/asking.py what it reads. `asked.js lines FILE [once]` tells a session the lines of a file, and prints the answers;
+// called, bindings/tests/asking.py and walking.py what it reads. `asked.js lines FILE [once]` tells a session the lines of a file, and prints the answers;
 // `asked.js steps FILE` does the steps of one, as bindings/tests/inputs.py writes them, and prints the record. Both tell on standard error
 // how many a second.
 
 import { readFileSync, writeSync } from "node:fs";
-import { LineRefused, REFUSALS, Session, StepRefused, World } from "../index.js";
+import { LineRefused, REFUSALS, Session, StepRefused, Walk, World } from "../index.js";
 
 const STEPS = ["", "submit", "receive", "begin", "enter", "choose", "adopt", "suspect", "conclude", "deliver", "follow", "crash",
   "postpone", "lose", "repeat"];
@@ -122,6 +122,23 @@ function worlds(path) {
   }
 }
 
+// The records of walks with these options, which are in the order of ct.h.
+function walks(path) {
+  const names = ["turns", "seed", "batch", "every", "rate", "cells", "submit", "postpone", "lose", "repeat", "scatter", "lasting", "cut"];
+  for (const line of linesOf(path)) {
+    const numbers = line.split(" ").map(Number);
+    const [members, crash, crashes] = numbers.splice(names.length);
+    const walk = new Walk(members, { crash, crashes, ...Object.fromEntries(names.map((name, i) => [name, numbers[i]])) });
+    const world = walk.world();
+    for (let turn = walk.turn(world); turn !== "over"; turn = walk.turn(world)) {
+      if (turn !== "rest" && world.enabled(turn)) world.apply(turn);
+    }
+    print(world.record());
+    walk.close();
+    world.close();
+  }
+}
+
 function told(session, word, rest) {
   try {
     if (word === "tell") {
@@ -188,6 +205,6 @@ async function many(count) {
 
 const [word, path, more] = process.argv.slice(2);
 if (word === "names") REFUSALS.forEach((name, i) => print(i + 1, name));
-else await { worlds, sessions, lines, steps, many }[word](path, more);
+else await { worlds, walks, sessions, lines, steps, many }[word](path, more);
 const text = Buffer.from(out.map((line) => `${line}\n`).join(""));
 for (let at = 0; at < text.length;) at += writeSync(1, text, at);

@@ -1,5 +1,5 @@
 // What the package's types let pass, and what they don't.
-import { Envelope, Refused, Session, Step, StepRefused, World, tool, version } from "../index.js";
+import { Envelope, Refused, Session, Step, StepRefused, Walk, World, tool, version } from "../index.js";
 
 const world = new World(3, { cells: 4 });
 const { first, count } = world.apply(["submit", 1, ["set", 0, 7n]]);
@@ -12,6 +12,9 @@ const name: string = it && it.kind === "data" ? it.message.name : "";
 const table: bigint[] = world.table(1);
 const { phase, heard } = world.standing(1);
 const place: string = phase === "Gather" ? heard.map(({ member, ts }) => `${member} ${ts}`).join() : phase ?? "none";
+const walk = new Walk(3, { seed: 7, cut: 2 });
+const turn = walk.turn(walk.world());
+if (turn !== "rest" && turn !== "over") world.apply(turn);
 const answers: string[] = new Session().tellAll(["members 3"]);
 const told: Promise<string> = tool(["walk"], { input: "" }).then(({ status, out }) => `${status}${out}`);
 console.log(version, count, said, ts, name, table, place, answers, told);

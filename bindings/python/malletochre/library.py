@@ -6,13 +6,13 @@ import os
 from ctypes import POINTER, c_bool, c_char_p, c_size_t, c_uint16, c_uint32, c_uint64, c_uint8, c_void_p
 from typing import Any, Callable, List, Optional
 
-DONE, OUT_OF_MEMORY, BOARD, NOT_OPEN, BAD_SETUP, NO_WORLD, TOO_LONG = 0, 23, 24, 25, 28, 29, 30
+DONE, OUT_OF_MEMORY, BOARD, NOT_OPEN, BAD_SETUP, NO_WORLD, TOO_LONG, BAD_OPTIONS = 0, 23, 24, 25, 28, 29, 30, 32
 NONE = ctypes.c_size_t(-1).value
 FEW = 8   # elements of a list for which there is room at first
 
 
 class Handle(ctypes.Structure):
-    """A world or a session: zeros at first."""
+    """A world, a walk or a session: zeros at first."""
 
     _fields_ = [("at", c_void_p), ("is_open", c_bool)]
 
@@ -39,6 +39,16 @@ class StandingNumbers(ctypes.Structure):
                 ("acked", c_uint16), ("replied", c_uint16), ("member", c_uint8), ("phase", c_uint8), ("has_crashed", c_bool)]
 
 
+class WalkNumbers(ctypes.Structure):
+    _fields_ = [*((name, c_uint32) for name in ("turns", "seed", "batch", "every")),
+                *((name, c_uint16) for name in ("rate", "cells", "submit", "postpone", "lose", "repeat", "scatter", "lasting", "cut")),
+                *((name, c_uint8) for name in ("members", "crash", "crashes"))]
+
+
+class TurnNumbers(ctypes.Structure):
+    _fields_ = [("step", StepNumbers), ("kind", c_uint8)]
+
+
 _AT = POINTER(Handle)
 _STEP = [_AT, c_uint8, c_uint8, c_uint32, c_uint8, c_uint64]
 _CALLS = {
@@ -57,6 +67,9 @@ _CALLS = {
     "ct_decided": (c_size_t, [_AT, c_uint8, c_uint32, POINTER(MessageNumbers), c_size_t]),
     "ct_delivered": (c_size_t, [_AT, c_uint8, POINTER(MessageNumbers), c_size_t]),
     "ct_table": (c_size_t, [_AT, c_uint8, POINTER(c_uint64), c_size_t]),
+    "ct_walk_open": (c_uint32, [_AT, POINTER(WalkNumbers)]),
+    "ct_walk_close": (None, [_AT]),
+    "ct_walk_turn": (TurnNumbers, [_AT, _AT]),
     "ct_session_open": (c_uint32, [_AT]),
     "ct_session_close": (None, [_AT]),
     "ct_tell": (c_uint32, [_AT, c_char_p, c_size_t]),

@@ -3,6 +3,7 @@
 
     asked.py names            the refusals, each with its number
     asked.py worlds FILE      what worlds answer to the words of a file that bindings/tests/asking.py wrote
+    asked.py walks FILE       the records of walks with the options that bindings/tests/walking.py wrote
     asked.py sessions FILE    what a session answers to the lines of one
     asked.py many N           opens N worlds and N sessions, closes every other one and forgets the rest
 """
@@ -13,7 +14,8 @@ from typing import Callable, Dict, Iterable, List, Optional
 sys.path.insert(0, os.path.join(os.path.dirname(os.path.abspath(__file__)), ".."))
 
 from malletochre import (Ack, Data, Estimate, LineRefused, Message, Nack, NoWorld, Receive, Refusal, Session, Set,   # noqa: E402
-                         Standing, StepRefused, Submit, Suspect, World)
+                         Standing, StepRefused, Submit, Suspect, Turn, Walk, World)
+from malletochre.library import WalkNumbers   # noqa: E402
 from malletochre.session import TOO_LONG   # noqa: E402
 from malletochre.steps import step_of_numbers   # noqa: E402
 
@@ -134,6 +136,17 @@ def worlds(path: str) -> None:
                 asked.turns(numbers[0], numbers[1], word == "take")
 
 
+def walks(path: str) -> None:
+    with open(path, encoding="utf-8") as file:
+        for line in file:
+            options = {name: int(number) for (name, _), number in zip(WalkNumbers._fields_, line.split())}
+            with Walk(**options) as walk, walk.world() as world:
+                for turn in iter(lambda: walk.turn(world), Turn.OVER):
+                    if not isinstance(turn, Turn) and world.enabled(turn):
+                        world.apply(turn)
+                print(world.record())
+
+
 def told(session: Session, line: str) -> str:
     sent = session.tell(line)
     return f"{sent.start} {len(sent)}"
@@ -171,7 +184,7 @@ def main() -> None:
     elif word == "many":
         many(int(rest[0]))
     else:
-        {"worlds": worlds, "sessions": sessions}[word](rest[0])
+        {"worlds": worlds, "walks": walks, "sessions": sessions}[word](rest[0])
 
 
 if __name__ == "__main__":

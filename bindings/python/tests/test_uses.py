@@ -19,7 +19,7 @@ from unittest import mock
 
 import malletochre
 from malletochre import (IN_PROCESS, Add, Begin, Choose, Copy, Enter, LineRefused, NoWorld, Phase, Receive, Refusal, Session, Set, Standing,
-                         Step, StepRefused, Submit, World, library, tool)
+                         Step, StepRefused, Submit, Turn, Walk, World, library, tool)
 
 PACKAGE = os.path.dirname(malletochre.__file__)
 OF_PROCESS = unittest.skipUnless(IN_PROCESS, "needs libct.so")
@@ -31,6 +31,33 @@ def calls(world: World) -> List[Callable[[], Any]]:
     asked: List[Callable[[], Any]] = [lambda call=call: call(1) for call in of_member]   # type: ignore[misc]
     return [*asked, lambda: world.apply(Begin(1)), lambda: world.refusal(Begin(1)), lambda: world.enabled(Begin(1)), world.steps,
             world.record, world.copy, lambda: world.envelope(1), lambda: world.value(1), lambda: world.decided(1, 1)]
+
+
+class Walks(unittest.TestCase):
+    """Walks; asked.py has that they are those of `ct_tool walk`."""
+
+    def test_options_out_of_range(self) -> None:
+        wrong = {"turns": 100_001, "seed": 2**32, "rate": 257, "cells": 1025, "submit": 1001, "crash": 4, "postpone": 1001, "lose": 1001,
+                 "repeat": 1001, "batch": 0, "every": 100_001, "scatter": 257, "lasting": 257, "crashes": 2, "cut": -1}
+        for name, number in wrong.items():
+            self.assertRaisesRegex(ValueError, name, Walk, 3, **{name: number})
+        self.assertRaises(ValueError, Walk, 17)
+        self.assertRaises(TypeError, Walk, 3, rate=2.5)
+
+    @unittest.skipIf(IN_PROCESS, "there is libct.so")
+    def test_without_library(self) -> None:
+        self.assertRaises(OSError, Walk, 3)
+
+    @OF_PROCESS
+    def test_turns(self) -> None:
+        with Walk(1, turns=1, submit=1, every=1) as walk, World(3) as world:
+            turns = [walk.turn(world) for _ in range(4)]
+            self.assertEqual(turns[0], Submit(1, Add(0, 1)))
+            self.assertEqual(turns[2:], [Turn.OVER, Turn.OVER])
+        self.assertRaises(ValueError, walk.turn, world)
+        with Walk(3) as walk, World(3, tool=tool.found()) as other:
+            self.assertRaises(ValueError, walk.turn, world)
+            self.assertRaises(TypeError, walk.turn, other)
 
 
 class Worlds(unittest.TestCase):

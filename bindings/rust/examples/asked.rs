@@ -1,9 +1,10 @@
 //! Prints what worlds and sessions answer, as the same program in other languages does: bindings/python/tests/asked.py says how it is
-//! called, bindings/tests/asking.py what it reads.
+//! called, bindings/tests/asking.py and walking.py what it reads.
 
 mod numbers;
 
-use malletochre::{Command, Content, Envelope, Member, Message, Refusal, Session, SessionError, Setup, Standing, Step, World, MAX_BOUND};
+use malletochre::{Command, Content, Envelope, Member, Message, Refusal, Session, SessionError, Setup, Standing, Step, Turn, Walk};
+use malletochre::{WalkOptions, World, MAX_BOUND};
 use std::error::Error;
 use std::fmt::Write;
 
@@ -140,6 +141,42 @@ fn worlds(text: &str) -> Result<(), Box<dyn Error>> {
     Ok(())
 }
 
+/// The records of walks with these options, which are in the order of ct.h.
+fn walks(text: &str) -> Result<(), Box<dyn Error>> {
+    for line in text.lines() {
+        let n: Vec<u32> = line.split_whitespace().map(str::parse).collect::<Result<_, _>>()?;
+        let (word, byte) = (|i: usize| n[i] as u16, |i: usize| n[i] as u8);
+        let mut walk = Walk::open(WalkOptions {
+            turns: n[0],
+            seed: n[1],
+            batch: n[2],
+            every: n[3],
+            rate: word(4),
+            cells: word(5),
+            submit: word(6),
+            postpone: word(7),
+            lose: word(8),
+            repeat: word(9),
+            scatter: word(10),
+            lasting: word(11),
+            cut: word(12),
+            members: byte(13),
+            crash: byte(14),
+            crashes: byte(15),
+        })?;
+        let mut world = World::open(walk.setup())?;
+        loop {
+            match walk.turn(&world) {
+                Turn::Step(step) => drop(world.apply(step)),
+                Turn::Rest => {}
+                Turn::Over => break,
+            }
+        }
+        println!("{}", world.record());
+    }
+    Ok(())
+}
+
 fn sessions(text: &str) -> Result<(), SessionError> {
     let mut session = Session::open()?;
     for line in text.lines() {
@@ -178,6 +215,7 @@ fn main() -> Result<(), Box<dyn Error>> {
     match (words[0].as_str(), words.get(1)) {
         ("many", Some(count)) => many(count.parse()?)?,
         ("worlds", Some(path)) => worlds(&std::fs::read_to_string(path)?)?,
+        ("walks", Some(path)) => walks(&std::fs::read_to_string(path)?)?,
         ("sessions", Some(path)) => sessions(&std::fs::read_to_string(path)?)?,
         _ => (1..).map_while(|number| Refusal::try_from(number).ok()).for_each(|it| println!("{} {it}", u32::from(it))),
     }

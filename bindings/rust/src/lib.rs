@@ -19,15 +19,17 @@
 //! # }
 //! ```
 //!
-//! A [`Session`] is told lines of a schedule instead (docs/SCHEDULES.md) and answers each, as `ct_tool interact` does.
+//! A [`Walk`] draws steps at random, as `ct_tool walk` does. A [`Session`] is told lines of a schedule instead (docs/SCHEDULES.md) and
+//! answers each, as `ct_tool interact` does.
 //!
 //! The library behind it is proved: the record of a world is a run of the algorithm, whatever is asked of it, and each refusal is the
 //! cause exactly. This wrapper isn't: bindings/README.md tells what it has to keep, which is that a handle stays where it is, and that
-//! there is one call on it at a time. So worlds and sessions are `Send` and not `Sync`:
+//! there is one call on it at a time. So worlds, walks and sessions are `Send` and not `Sync`:
 //!
 //! ```
 //! fn goes_to_another_thread<T: Send>() {}
 //! goes_to_another_thread::<malletochre::World>();
+//! goes_to_another_thread::<malletochre::Walk>();
 //! goes_to_another_thread::<malletochre::Session>();
 //! ```
 //!
@@ -53,6 +55,7 @@ mod setup;
 mod standing;
 mod step;
 mod steps;
+mod walk;
 mod world;
 
 use malletochre_sys as raw;
@@ -67,6 +70,7 @@ pub use setup::{OpenError, Setup, MAX_BOUND, MAX_CELLS, MAX_MEMBERS, REGISTERS};
 pub use standing::{Phase, Standing};
 pub use step::Step;
 pub use steps::Steps;
+pub use walk::{Turn, Walk, WalkOptions};
 pub use world::World;
 
 /// A member of a group, counted from 1.

@@ -37,12 +37,14 @@ impl Setup {
     }
 }
 
-/// Why a world can't be opened.
+/// Why a world or a walk can't be opened.
 #[derive(Clone, Copy, Debug, PartialEq, Eq)]
 #[non_exhaustive]
 pub enum OpenError {
     /// A number of the setup is out of its range.
     BadSetup,
+    /// An option of the walk is.
+    BadOptions,
     /// Memory was refused.
     OutOfMemory,
 }
@@ -54,6 +56,7 @@ impl OpenError {
             0 => Ok(()),
             raw::OUT_OF_MEMORY => Err(OpenError::OutOfMemory),
             raw::BAD_SETUP => Err(OpenError::BadSetup),
+            raw::BAD_OPTIONS => Err(OpenError::BadOptions),
             number => unreachable!("the library answers {number}"),
         }
     }
@@ -63,6 +66,7 @@ impl fmt::Display for OpenError {
     fn fmt(&self, f: &mut fmt::Formatter<'_>) -> fmt::Result {
         match self {
             OpenError::BadSetup => write!(f, "members are 1 to {MAX_MEMBERS}, cells 0 to {MAX_CELLS}, bounds 1 to {MAX_BOUND}"),
+            OpenError::BadOptions => f.write_str("an option of the walk is out of its range"),
             OpenError::OutOfMemory => f.write_str("out of memory"),
         }
     }

@@ -1,5 +1,5 @@
--- A world or a session in a box at the program's heap, as the proofs of handles have it. Assumes `Logic`.
---     world, session     each with `Global`; a handle that holds, its parts and its box own the same of it
+-- A world, a session or a walk in a box at the program's heap, as the proofs of handles have it. Assumes `Logic`.
+--     world, session, walk  each with `Global`; a handle that holds, its parts and its box own the same of it
 --     empty_in           a null pointer and the heap make a handle that holds nothing; what it doesn't hold is not owned
 use Rattle.ct_embed.proofs.Common.{refl, false, List, [], ◌∷◌, T, lit<, Ura, Logic, RawPtr, null_ptr, ptr_val, nothing, Val, vstruct, vcons}
 use Rattle.ct_embed.proofs.Common.{vnil, has_ty, WT, Al, α, Fits, Bx, box_ty, hush}
@@ -16,6 +16,8 @@ use Rattle.ct_embed.specs.contracts.own_session.OwnSession as sessions
 use Rattle.ct_embed.proofs.own_session.OwnSession.TheLaws as session_laws
 use Rattle.ct_embed.specs.contracts.own_world.OwnWorld as worlds
 use Rattle.ct_embed.proofs.own_world.OwnWorld.TheLaws as world_laws
+use Rattle.ct_walk.specs.contracts.turns.Turns as walks
+use Rattle.ct_walk.proofs.turns.Turns.TheLaws as walk_laws
 use Rattle.ct_embed.specs.contracts.parts.Parts as parts
 use Rattle.ct_embed.specs.contracts.session_handle.SessionHandle as handle
 
@@ -27,6 +29,9 @@ world = record { row = worlds.the_row; laws = world_laws.the_row_laws; al = the_
 
 abbrev pub session : Bx
 session = record { row = sessions.the_row; laws = session_laws.the_row_laws; al = the_heap }
+
+abbrev pub walk : Bx
+walk = record { row = walks.the_row; laws = walk_laws.the_row_laws; al = the_heap }
 
 abbrev pub parted : Bx → RattleType
 parted E = parts.the_row E.row heap.the_row ghosts

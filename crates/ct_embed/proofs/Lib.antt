@@ -4,4 +4,5 @@ pub mod Common
 pub mod Copying
 pub mod Hearing
 pub mod Rooms
+pub mod Stepping
 pub mod Unopened

@@ -11,3 +11,4 @@ pub mod Seen
 pub mod StandingCodes
 pub mod StepCodes
 pub mod Telling
+pub mod WalkCodes

@@ -1,4 +1,4 @@
--- What a handle owns: a world or a session in a box, or nothing.
+-- What a handle owns: a world, a walk or a session in a box, or nothing.
 use Rattle.std.specs.Prelude.{Bool, true, false}
 use base.Fml.{Fml, ftrue}
 use denote.RattleType.{RattleType}

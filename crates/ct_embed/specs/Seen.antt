@@ -1,4 +1,4 @@
--- What contracts see of a world or a session that its caller holds.
+-- What contracts see of a world, a walk or a session that its caller holds.
 use Rattle.std.specs.Prelude.{Bool, true, false, ℕ, List, drop, Option, Some, None, option_and_then, option_map}
 use Rattle.ct_names.specs.Message.{Message}
 use Rattle.ct_model.specs.Mapped.{without_value}
@@ -11,7 +11,7 @@ use Rattle.ct_model.specs.Wire.{value_of}
 use Rattle.ct_table.specs.Table.{table}
 use Rattle.ct_world.specs.World.{member_of, of_member, if_member}
 
--- the record of the world, or the session, if it is open
+-- what the handle holds, if it is open
 abbrev pub seen : {A : Type 0} → Bool → A → Option A
 seen true x = Some x
 seen false x = None

@@ -1,14 +1,16 @@
-//! Worlds and sessions, for programs in other languages: a static library. `bindings/ct.h` says how C calls it.
+//! Worlds, sessions and walks, for programs in other languages: a static library. `bindings/ct.h` says how C calls it.
 #![tactic(auto)]
 
 mod applied;
 mod drawing;
 mod held_session;
+mod held_walk;
 mod held_world;
 mod letter_code;
 mod message_code;
 mod numbers;
 mod opened;
+mod options_code;
 mod own_session;
 mod own_world;
 mod parts;
@@ -21,17 +23,24 @@ mod session_calls;
 mod session_handle;
 mod standing_code;
 mod step_code;
+mod turn_code;
 mod version;
+mod walk_calls;
+mod walk_handle;
 mod world_calls;
 mod world_handle;
 
 pub use applied::Applied;
 pub use held_session::HeldSession;
+pub use held_walk::HeldWalk;
 pub use held_world::HeldWorld;
 pub use letter_code::LetterCode;
 pub use message_code::MessageCode;
 pub use opened::Opened;
+pub use options_code::OptionsCode;
 pub use session_handle::SessionHandle;
 pub use standing_code::StandingCode;
 pub use step_code::StepCode;
+pub use turn_code::TurnCode;
+pub use walk_handle::WalkHandle;
 pub use world_handle::WorldHandle;

@@ -6,7 +6,7 @@ pub(crate) const OUT_OF_MEMORY: u32 = 23;
 /// The board refused a batch.
 pub(crate) const BOARD: u32 = 24;
 
-/// The world or the session is closed.
+/// The world, the session or the walk is closed.
 pub(crate) const NOT_OPEN: u32 = 25;
 
 /// It is open.
@@ -26,3 +26,6 @@ pub(crate) const TOO_LONG: u32 = 30;
 
 /// The text is no record.
 pub(crate) const NO_RECORD: u32 = 31;
+
+/// An option of a walk is out of its range.
+pub(crate) const BAD_OPTIONS: u32 = 32;

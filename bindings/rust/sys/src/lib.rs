@@ -14,8 +14,12 @@ pub const BAD_SETUP: u32 = 28;
 pub const NO_WORLD: u32 = 29;
 pub const TOO_LONG: u32 = 30;
 pub const NO_RECORD: u32 = 31;
+pub const BAD_OPTIONS: u32 = 32;
 
-/// A world or a session, as C holds it: zeros at first.
+/// The kind of a turn of a walk where all were made.
+pub const TURN_OVER: u8 = 3;
+
+/// A world, a walk or a session, as C holds it: zeros at first.
 #[repr(C)]
 pub struct Handle {
     pub at: *mut c_void,
@@ -87,6 +91,71 @@ pub struct Standing {
     pub has_crashed: bool,
 }
 
+/// The options of a walk, under their names in `ct_tool walk --help`, which says what each does.
+#[repr(C)]
+#[derive(Clone, Copy, Debug, PartialEq, Eq)]
+pub struct WalkOptions {
+    /// Up to 100,000, for each member.
+    pub turns: u32,
+    pub seed: u32,
+    /// 1 to 1,048,560.
+    pub batch: u32,
+    /// Up to 100,000.
+    pub every: u32,
+    /// Up to 256, as are `scatter` and `lasting`.
+    pub rate: u16,
+    /// Up to 1,024.
+    pub cells: u16,
+    /// Up to 1,000, as are `postpone`, `lose`, `repeat` and `cut`.
+    pub submit: u16,
+    pub postpone: u16,
+    pub lose: u16,
+    pub repeat: u16,
+    pub scatter: u16,
+    pub lasting: u16,
+    pub cut: u16,
+    /// 1 to 16.
+    pub members: u8,
+    /// A member, or 0.
+    pub crash: u8,
+    /// Fewer than half of the members.
+    pub crashes: u8,
+}
+
+impl WalkOptions {
+    /// Those of `ct_tool walk --members ..`: all others are as where they aren't given.
+    pub fn of(members: u8) -> WalkOptions {
+        let (turns, seed, batch, every) = (1_000, 0, 1_048_560, 0);
+        let (rate, cells, submit, postpone, lose, repeat) = (64, 64, 8, 0, 0, 0);
+        let (scatter, lasting, cut, crash, crashes) = (0, 0, 0, 0, 0);
+        WalkOptions {
+            turns,
+            seed,
+            batch,
+            every,
+            rate,
+            cells,
+            submit,
+            postpone,
+            lose,
+            repeat,
+            scatter,
+            lasting,
+            cut,
+            members,
+            crash,
+            crashes,
+        }
+    }
+}
+
+#[repr(C)]
+#[derive(Clone, Copy)]
+pub struct Turn {
+    pub step: Step,
+    pub kind: u8,
+}
+
 extern "C" {
     pub fn ct_world_open(world: *mut Handle, members: u8, cells: u16, bound: u32) -> u32;
     pub fn ct_open_record(world: *mut Handle, text: *const u8, length: usize) -> Opened;
@@ -104,6 +173,9 @@ extern "C" {
     pub fn ct_decided(world: *mut Handle, member: u8, instance: u32, room: *mut Message, length: usize) -> usize;
     pub fn ct_delivered(world: *mut Handle, member: u8, room: *mut Message, length: usize) -> usize;
     pub fn ct_table(world: *mut Handle, member: u8, room: *mut u64, length: usize) -> usize;
+    pub fn ct_walk_open(walk: *mut Handle, options: *const WalkOptions) -> u32;
+    pub fn ct_walk_close(walk: *mut Handle);
+    pub fn ct_walk_turn(walk: *mut Handle, world: *mut Handle) -> Turn;
     pub fn ct_session_open(session: *mut Handle) -> u32;
     pub fn ct_session_close(session: *mut Handle);
     pub fn ct_tell(session: *mut Handle, bytes: *const u8, length: usize) -> u32;
