@@ -16,8 +16,8 @@ use Rattle.ct_grammar.specs.declared.wanted.Wanted.TheVariants as wanted
 use Rattle.ct_grammar.specs.Words.{Word}
 use Rattle.ct_grammar.specs.Unfits.{◌>>=◌, map_ok}
 use Rattle.ct_grammar.specs.Names.{name_of}
-use Rattle.ct_grammar.specs.Numbers.{number_of, max_u8, max_u32}
-use Rattle.ct_grammar.specs.Leading.{behind_term, lone_whole, over}
+use Rattle.ct_grammar.specs.Numbers.{number_in, number_of, max_u8, max_u32}
+use Rattle.ct_grammar.specs.Leading.{behind_term, lone_whole, number_first, over}
 use Rattle.ct_grammar.specs.Reasons.{reason_of}
 use Rattle.ct_grammar.specs.Facts.{named_fact}
 
@@ -43,16 +43,16 @@ at_least what (word ∷ words) =
 
 -- ---- decisions and deliveries
 
--- a whole number alone
-unfoldable pub one_number : List Word → Option ℕ
-one_number [] = None
-one_number (word ∷ []) = number_of max_u32 word
-one_number (word ∷ next ∷ words) = None
+-- an instance alone
+unfoldable pub one_instance : List Word → Option ℕ
+one_instance [] = None
+one_instance (word ∷ []) = number_in 1 max_u32 word
+one_instance (word ∷ next ∷ words) = None
 
 -- how many decisions it got, or the decision of an instance; None where it is what the report says of the decisions
 unfoldable pub decided : Option (Result Claim Unfit) → List Word → Option (Result Claim Unfit)
 decided (Some count) words = Some count
-decided None words = option_map (λ i. Ok (claims.Got i)) (one_number words)
+decided None words = option_map (λ i. Ok (claims.Got i)) (one_instance words)
 
 -- the two messages of these names, in this order
 unfoldable pub in_order : Word → Word → Result Claim Unfit
@@ -101,7 +101,10 @@ word_alone name what claim (word ∷ words) =
 
 -- the follow of an instance, alone
 unfoldable pub followed : List Word → Result Claim Unfit
-followed words = map_ok claims.Follows (lone_whole wanted.Count words)
+followed words = do
+  r ← number_first 1 max_u32 wanted.Instance words
+  _ ← over (behind_term wanted.Nothing r.1) r.1
+  Ok (claims.Follows r.0)
 
 -- what is claimed, where no words stand behind it
 abbrev pub lone_claim : Claim → List Word → Result Claim Unfit

@@ -1,7 +1,7 @@
 //! What goals say of members, in words.
 
 ghost use Rattle.std.specs.Prelude.{◌≡◌, IfOk, map};
-ghost use Rattle.ct_grammar.specs.Claims.{extent_of, counted, at_least, one_number, decided, in_order, before, delivered};
+ghost use Rattle.ct_grammar.specs.Claims.{extent_of, counted, at_least, one_instance, decided, in_order, before, delivered};
 ghost use Rattle.ct_grammar.specs.Claims.{chosen, refused_choice, refused, word_alone, followed, lone_claim, step_claim, event_claim};
 ghost use Rattle.ct_grammar.specs.Claims.{amount_claim, or_fact, claim_of};
 ghost use Rattle.ct_grammar.specs.Unfits.{map_ok};
@@ -9,9 +9,9 @@ ghost use Rattle.ct_grammar.specs.declared.claim.Claim.{Claim};
 
 use crate::claim::{Amount, Claim, Extent};
 use crate::expecting::named_fact;
-use crate::leading::{behind_term, lone_whole, over};
+use crate::leading::{behind_term, lone_whole, number_first, over};
 use crate::naming::reason;
-use crate::numbers::{byte, whole};
+use crate::numbers::{byte, number_in};
 use crate::reason::Reason;
 use crate::reports::name;
 use crate::unfit::Unfit;
@@ -67,15 +67,16 @@ fn at_least(amount: Amount, words: &[&str]) -> Option<Result<Claim, Unfit>>
     }
 }
 
-// A whole number alone.
-#[tactic(auto, unfolding(crate::specs::Claims::one_number))]
-fn one_number(words: &[&str]) -> Option<u32>
-    ensures { result ≡ one_number (map (λ word. word.now) words.now) }
+// An instance alone.
+#[tactic(auto, unfolding(crate::specs::Claims::one_instance))]
+fn one_instance(words: &[&str]) -> Option<u32>
+    ensures { result ≡ one_instance (map (λ word. word.now) words.now) }
 {
-    match words {
-        [word] => whole(word.as_bytes()),
-        _ => None,
-    }
+    let [word] = words else {
+        return None;
+    };
+    let instance = number_in(word.as_bytes(), 1, u32::MAX as u64)?;
+    Some(instance as u32)
 }
 
 // How many decisions it got, or the decision of an instance.
@@ -85,7 +86,7 @@ fn decided(count: Option<Result<Claim, Unfit>>, words: &[&str]) -> Option<Result
 {
     match count {
         Some(count) => Some(count),
-        None => Some(Ok(Claim::Got(one_number(words)?))),
+        None => Some(Ok(Claim::Got(one_instance(words)?))),
     }
 }
 
@@ -212,7 +213,9 @@ fn word_alone(name: &str, wanted: Wanted, claim: Claim, words: &[&str]) -> Resul
 fn followed(words: &[&str]) -> Result<Claim, Unfit>
     ensures { result ≡ followed (map (λ word. word.now) words.now) }
 {
-    Ok(Claim::Follows(lone_whole(words, Wanted::Count)?))
+    let (instance, rest) = number_first(words, 1, u32::MAX as u64, Wanted::Instance)?;
+    over(rest, behind_term(rest, Wanted::Nothing))?;
+    Ok(Claim::Follows(instance as u32))
 }
 
 // What is claimed, where no words stand behind it.

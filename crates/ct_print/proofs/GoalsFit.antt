@@ -8,7 +8,7 @@ use Rattle.ct_grammar.specs.declared.claim.Claim.TheVariants as claims
 use Rattle.ct_grammar.specs.declared.reason.Reason.{Reason}
 use Rattle.ct_grammar.specs.declared.term.Term.{Term}
 use Rattle.ct_grammar.specs.declared.term.When.{When}
-use Rattle.ct_grammar.specs.Claims.{extent_of, counted, at_least, one_number, decided, in_order, before, delivered, chosen}
+use Rattle.ct_grammar.specs.Claims.{extent_of, counted, at_least, one_instance, decided, in_order, before, delivered, chosen}
 use Rattle.ct_grammar.specs.Claims.{refused_choice, refused, lone_claim, word_alone, followed, step_claim, event_claim, amount_claim}
 use Rattle.ct_grammar.specs.Claims.{or_fact, claim_of}
 use Rattle.ct_grammar.specs.Facts.{named_fact}
@@ -17,7 +17,7 @@ use Rattle.ct_grammar.specs.Numbers.{max_u32}
 use Rattle.ct_grammar.specs.Words.{Word, words_of}
 use Rattle.ct_print.specs.Writable.{IsCounted, IsRules, ClaimFits, WhomFits, TermFits, GoalFits}
 use Rattle.ct_print.proofs.FactsFit.{fact_fits, reason_rules}
-use Rattle.ct_print.proofs.Readable.{steps, ok_weaker, mapped, May, Gives, number_within}
+use Rattle.ct_print.proofs.Readable.{steps, ok_weaker, mapped, May, Gives, number_within, number_between, number_first_fits}
 use Rattle.ct_print.proofs.Readable.{members_are_set}
 use Rattle.ct_print.proofs.ReportsFit.{alone_fits, name_fits}
 
@@ -45,15 +45,15 @@ at_least_fits what (word ∷ words) = search (steps, alone_fits)
 
 -- ---- decisions and deliveries
 
-one_number_fits : (words : List Word) → May (one_number words) (λ i. i ≤ max_u32)
-unfolding one_number
-one_number_fits (word ∷ []) Q k = number_within max_u32 word Q k
-one_number_fits _ Q k = tt
+instance_fits : (words : List Word) → May (one_instance words) (λ i. (1 ≤ i) × (i ≤ max_u32))
+unfolding one_instance
+instance_fits (word ∷ []) Q k = number_between 1 max_u32 word Q k
+instance_fits _ Q k = tt
 
 decided_fits : (count : Option (Result Claim _)) (words : List Word) → MayFit count → MayFit (decided count words)
 unfolding decided
 decided_fits (Some count) words h = h
-decided_fits None words h = search (steps, one_number_fits)
+decided_fits None words h = search (steps, instance_fits)
 
 order_fits : (first second : Word) → IfOk (in_order first second) ClaimFits
 unfolding in_order
@@ -93,7 +93,7 @@ lone_fits claim words h = search steps
 
 step_fits : (name : Word) (words : List Word) → MayFit (step_claim name words)
 unfolding step_claim followed
-step_fits name words = search (steps, alone_word_fits, lone_fits, alone_fits) depth 12
+step_fits name words = search (steps, alone_word_fits, lone_fits, number_first_fits) depth 14
 
 -- ---- all claims
 

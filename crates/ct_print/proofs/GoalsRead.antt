@@ -13,7 +13,7 @@ use Rattle.ct_grammar.specs.declared.claim.Name.{Name}
 use Rattle.ct_grammar.specs.declared.fact.Fact.{Fact}
 use Rattle.ct_grammar.specs.declared.fact.Fact.TheVariants.{Received, Decided, Delivered, Refuses}
 use Rattle.ct_grammar.specs.declared.reason.Reason.{Reason}
-use Rattle.ct_grammar.specs.Claims.{extent_of, counted, at_least, one_number, decided, in_order, before, delivered, chosen}
+use Rattle.ct_grammar.specs.Claims.{extent_of, counted, at_least, one_instance, decided, in_order, before, delivered, chosen}
 use Rattle.ct_grammar.specs.Claims.{refused_choice, refused, word_alone, followed, step_claim, event_claim, amount_claim, or_fact, claim_of}
 use Rattle.ct_grammar.specs.Facts.{named_fact}
 use Rattle.ct_grammar.specs.Leading.{over}
@@ -25,10 +25,10 @@ use Rattle.ct_print.specs.Acts.{message_word}
 use Rattle.ct_print.specs.Goals.{amount_text, extent_text, claim_text}
 use Rattle.ct_print.specs.Reports.{name_text}
 use Rattle.ct_print.specs.Writable.{ActFits, FactFits, AmountFits, NameFits, ClaimFits, IsRules}
-use Rattle.ct_print.proofs.ActsRead.{alone_back}
+use Rattle.ct_print.proofs.ActsRead.{alone_back, number_is_first}
 use Rattle.ct_print.proofs.FactsRead.{fact_name, fact_rest, fact_words, fact_says, fact_back, reason_back, reason_says}
 use Rattle.ct_print.proofs.NoAnd.{Says, says_beside, numeric_says, whole_says, spoken}
-use Rattle.ct_print.proofs.Numerals.{number_back}
+use Rattle.ct_print.proofs.Numerals.{number_back, number_in_back}
 use Rattle.ct_print.proofs.Numeric.{IsNumeric, numeric_other, decimal_numeric}
 use Rattle.ct_print.proofs.ReportsRead.{name_back, only_received, only_decided, only_delivered}
 use Rattle.ct_print.proofs.Spoken.{act_words, message_numeric}
@@ -140,9 +140,9 @@ not_counted : (what : Amount) (word : Word) (words : List Word) → IsNumeric wo
 unfolding counted
 not_counted what word words h = rw (numeric_other word 99 _ refl h) refl
 
-got_back : (i : ℕ) → i ≤ max_u32 → claim_of (codes "decided" ∷ decimal i ∷ []) ≡ Ok (claims.Got i)
-unfolding claim_of or_fact amount_claim event_claim decided one_number
-got_back i h = rw (not_counted _ (decimal i) [] (decimal_numeric i (omega arith)), number_back max_u32 i (omega arith) h) refl
+got_back : (i : ℕ) → 1 ≤ i → i ≤ max_u32 → claim_of (codes "decided" ∷ decimal i ∷ []) ≡ Ok (claims.Got i)
+unfolding claim_of or_fact amount_claim event_claim decided one_instance
+got_back i l h = rw (not_counted _ (decimal i) [] (decimal_numeric i (omega arith)), number_in_back 1 max_u32 i (omega arith) l h) refl
 
 word_back : (name : Name) → NameFits name → name_of (message_word name.origin name.number) ≡ Some name
 unfolding message_word name_text
@@ -165,16 +165,16 @@ choice_back : (reason : Reason) → IsRules reason →
 unfolding claim_of or_fact amount_claim event_claim refused refused_choice chosen over
 choice_back reason h = rw (reason_back reason h) refl
 
-follow_back : (i : ℕ) → i ≤ max_u32 → claim_of (codes "follows" ∷ decimal i ∷ []) ≡ Ok (claims.Follows i)
-unfolding claim_of or_fact amount_claim event_claim step_claim followed
-follow_back i h = rw (alone_back i _ h) refl
+follow_back : (i : ℕ) → 1 ≤ i → i ≤ max_u32 → claim_of (codes "follows" ∷ decimal i ∷ []) ≡ Ok (claims.Follows i)
+unfolding claim_of or_fact amount_claim event_claim step_claim followed over
+follow_back i l h = rw (number_is_first 1 max_u32 i _ [] (omega arith) l h) refl
 
 pub claim_back : (claim : Claim) → ClaimFits claim → claim_of (claim_words claim) ≡ Ok claim
 unfolding claim_of or_fact amount_claim event_claim step_claim word_alone over
 claim_back (claims.Fact fact) h = fact_claimed (fact_name fact) (fact_rest fact) fact (only_fact fact h) (fact_back fact h)
 claim_back (claims.Amount what extent) h = amount_back what extent h
-claim_back (claims.Got i) h = got_back i h
+claim_back (claims.Got i) h = got_back i h.0 h.1
 claim_back (claims.Before a b) h = before_back a b h.0 h.1
 claim_back (claims.RefusesChoice reason) h = choice_back reason h
-claim_back (claims.Follows i) h = follow_back i h
+claim_back (claims.Follows i) h = follow_back i h.0 h.1
 claim_back _ h = refl

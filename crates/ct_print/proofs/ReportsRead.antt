@@ -18,10 +18,10 @@ use Rattle.ct_grammar.specs.declared.reports.decision.Decision.{Decision}
 use Rattle.ct_grammar.specs.declared.reports.estimate.Estimate.{Estimate}
 use Rattle.ct_grammar.specs.declared.claim.Amount.{Amount}
 use Rattle.ct_grammar.specs.declared.claim.Amount.TheVariants as amount
-use Rattle.ct_grammar.specs.Claims.{counted, one_number, decided, before, delivered, event_claim, amount_claim}
+use Rattle.ct_grammar.specs.Claims.{counted, one_instance, decided, before, delivered, event_claim, amount_claim}
 use Rattle.ct_grammar.specs.Leading.{over}
 use Rattle.ct_grammar.specs.Names.{name_of, names_behind, names_within, names_or_dash, decision_of, within_braces, value_of, with_register}
-use Rattle.ct_grammar.specs.Numbers.{number_of, max_u8, max_u32, max_u64}
+use Rattle.ct_grammar.specs.Numbers.{number_in, number_of, max_u8, max_u32, max_u64}
 use Rattle.ct_grammar.specs.Reports.{lone_dash, with_names, messages_of, with_decisions, decisions_of, with_registers, table_of}
 use Rattle.ct_grammar.specs.Reports.{ts_of, adopted_of, estimate_of}
 use Rattle.ct_grammar.specs.Unfits.{◌>>=◌}
@@ -360,10 +360,10 @@ no_whole : (d : Decision) → d.instance ≤ max_u32 → number_of max_u32 (deci
 unfolding decision_text
 no_whole d h = no_number max_u32 d.instance 58 _ (omega arith) refl
 
-no_instance : (decisions : List Decision) → DecisionsFit 0 decisions → one_number (or_dash (map decision_text decisions)) ≡ None
-unfolding one_number number_of
+no_instance : (decisions : List Decision) → DecisionsFit 0 decisions → one_instance (or_dash (map decision_text decisions)) ≡ None
+unfolding one_instance number_in number_of
 no_instance [] h = refl
-no_instance (d ∷ []) h = no_whole d h.1
+no_instance (d ∷ []) h = rw (no_whole d h.1) refl
 no_instance (d ∷ next ∷ decisions) h = refl
 
 no_before : (words : List Word) → AreNumeric words → before (or_dash words) ≡ None

@@ -227,11 +227,11 @@ AmountFits what (AtLeast n) = n ≤ max_u32
 abbrev pub ClaimFits : Claim → Type 0
 ClaimFits (claims.Fact fact) = FactFits fact
 ClaimFits (claims.Amount what extent) = AmountFits what extent
-ClaimFits (claims.Got i) = i ≤ max_u32
+ClaimFits (claims.Got i) = (1 ≤ i) × (i ≤ max_u32)
 ClaimFits (claims.Before a b) = NameFits a × NameFits b
 ClaimFits (claims.RefusesChoice reason) = IsRules reason
 ClaimFits claims.SuspectsUp = Unit {0}
-ClaimFits (claims.Follows i) = i ≤ max_u32
+ClaimFits (claims.Follows i) = (1 ≤ i) × (i ≤ max_u32)
 ClaimFits claims.ChoosesUnseen = Unit {0}
 ClaimFits claims.ConcludesAgain = Unit {0}
 ClaimFits claims.Settled = Unit {0}
