@@ -58,7 +58,7 @@ pub fact_on : (old new : List ℕ) (w : Played) (p : ℕ) (fact : Fact) → Lead
     AddsLine old new (line_text (Plays (Expect (fact_goal p fact)))) → Leads new w
 fact_on old new w p fact h small member there adds =
     play_on old new (Expect (fact_goal p fact)) w w h adds (small, there.fits) (expect_line p fact there.line)
-    (λ rest e. expect_brace p fact rest) (there_played w p fact member there.same) refl
+    (λ rest e. expect_brace p fact rest) (there_played w p fact member there.known there.same) refl
 
 pub blank_on : (old new : List ℕ) (w : Played) → Leads old w → AddsLine old new (line_text Blank) → Leads new w
 unfolding line_text

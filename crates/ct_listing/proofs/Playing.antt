@@ -24,7 +24,8 @@ use Rattle.ct_play.specs.Goals.{holds_for, unshown}
 use Rattle.ct_play.specs.Picking.{sender_of}
 use Rattle.ct_play.specs.Played.{Played, with_step}
 use Rattle.ct_play.specs.Playing.{played}
-use Rattle.ct_play.specs.Who.{known}
+use Rattle.ct_play.specs.Strangers.{stranger}
+use Rattle.ct_play.specs.Strangers as strangers
 use Rattle.ct_play.specs.declared.line_fault.LineFault.{LineFault}
 use Rattle.ct_listing.specs.Expecting.{IsLone, fact_goal}
 
@@ -69,14 +70,10 @@ lone_played s p act step lone e is allowed =
 
 -- ---- expectations
 
-known_one : (n p : ℕ) → is_member n p ≡ true → known n (One p) ≡ Ok (p ∷ [])
-unfolding known
-known_one n p member = rw member refl
-
-pub there_played : (s : Played) (p : ℕ) (fact : Fact) → is_member s.rehearsal.setting.members p ≡ true → is_as_said s p fact ≡ true →
-    played s (Expect (fact_goal p fact)) ≡ Ok s
-unfolding expected unmet holds_for unshown is_true_of holds
-there_played s p fact member e = rw (known_one s.rehearsal.setting.members p member, member, e) refl
+pub there_played : (s : Played) (p : ℕ) (fact : Fact) → is_member s.rehearsal.setting.members p ≡ true →
+    strangers.expected s.rehearsal.setting.members fact ≡ None → is_as_said s p fact ≡ true → played s (Expect (fact_goal p fact)) ≡ Ok s
+unfolding expected unmet holds_for unshown is_true_of holds stranger
+there_played s p fact member known e = rw (member, known, e) refl
 
 -- ---- faults
 

@@ -24,18 +24,19 @@ module _ (s : Played) (p : ℕ) where
   pub crashed_there : (r : Bool) → is_member s.rehearsal.setting.members p ≡ true →
       r ≡ (is_member s.rehearsal.setting.members p && is_crashed (state_of s.rehearsal) p) → r ≡ true → IsThere s p Crashed
   unfolding fact_text
-  crashed_there r member e is = record { same = rw (crash_mark r member e, is) refl; fits = tt; line = refl }
+  crashed_there r member e is = record { same = rw (crash_mark r member e, is) refl; known = refl; fits = tt; line = refl }
 
   pub up_there : (r : Bool) → is_member s.rehearsal.setting.members p ≡ true →
       r ≡ (is_member s.rehearsal.setting.members p && is_crashed (state_of s.rehearsal) p) → r ≡ false → IsThere s p Up
   unfolding fact_text
-  up_there r member e is = record { same = rw (crash_mark r member e, is) refl; fits = tt; line = refl }
+  up_there r member e is = record { same = rw (crash_mark r member e, is) refl; known = refl; fits = tt; line = refl }
 
   pub instance_there : (i : ℕ) → is_member s.rehearsal.setting.members p ≡ true → i ≡ instance_of s.rehearsal p → i ≤ max_u32 →
       IsThere s p (Instance i)
   unfolding fact_text instance_of
   instance_there i member e small = record {
     same = eq-eqb (member_of s.rehearsal p).last i (sym (rw (member, instance_of) at e));
+    known = refl;
     fits = small;
     line = decimal_line i;
   }
@@ -44,6 +45,7 @@ module _ (s : Played) (p : ℕ) where
   unfolding fact_text
   idle_there member none = record {
     same = closed _ (member_of s.rehearsal p).current (rw member at none);
+    known = refl;
     fits = tt;
     line = refl;
   }
@@ -56,11 +58,12 @@ module _ (s : Played) (p : ℕ) where
   unfolding fact_text
   round_there r phase e small = record {
     same = rw e (eq-eqb r r refl);
+    known = refl;
     fits = small;
     line = decimal_line r;
   }
 
   pub phase_there : (r : ℕ) (phase : Phase) → place_of s.rehearsal p ≡ Some (r, phase) → IsThere s p (InPhase phase)
   unfolding fact_text
-  phase_there r Rest e = record { same = rw e refl; fits = tt; line = refl }
-  phase_there r _ e = record { same = rw e refl; fits = tt; line = refl }
+  phase_there r Rest e = record { same = rw e refl; known = refl; fits = tt; line = refl }
+  phase_there r _ e = record { same = rw e refl; known = refl; fits = tt; line = refl }

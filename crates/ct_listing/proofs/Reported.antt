@@ -10,12 +10,18 @@ use Rattle.std.proofs.lemmas.Option.{unwrap_or-slice_get}
 use Rattle.std.proofs.lemmas.Slice.Eq.{bytes_eq-Decides}
 use Rattle.ct_names.proofs.Lists.{true_or_false}
 use Rattle.ct_names.specs.Group.{is_member}
+use Rattle.ct_names.specs.Membership.{IsIn}
 use Rattle.ct_names.specs.Message.{Message}
 use Rattle.ct_names.specs.declared.command.Command.{Command}
 use Rattle.ct_names.specs.declared.command.Command.TheVariants.{Set, Add, Copy}
 use Rattle.ct_names.specs.declared.limit.TheConstants.{REGISTERS}
-use Rattle.ct_model.specs.Rehearsal.{Rehearsal}
+use Rattle.ct_model.specs.Rehearsal.{Rehearsal, state_of}
+use Rattle.ct_model.specs.Run.{run}
+use Rattle.ct_model.specs.Safe.{IsSafe}
 use Rattle.ct_model.specs.State.{delivered}
+use Rattle.ct_model.specs.declared.step.Step.{Step}
+use Rattle.ct_model.proofs.Relay.Integrity.{knows-run}
+use Rattle.ct_names.proofs.Values
 use Rattle.ct_table.specs.Table.{applied, applied_all, table, zeros}
 use Rattle.ct_world.specs.World.{member_of, of_member}
 use Rattle.ct_text.specs.Lists.{first_registers, list_text, nonzero, register_text, register_texts, table_text}
@@ -25,6 +31,7 @@ use Rattle.ct_grammar.specs.declared.claim.Name.{Name}
 use Rattle.ct_grammar.specs.declared.fact.Fact.TheVariants.{Delivered, Table}
 use Rattle.ct_play.specs.Facts.{are_named, is_named, the_name}
 use Rattle.ct_play.specs.Played.{Played}
+use Rattle.ct_play.specs.Strangers as strangers
 use Rattle.ct_listing.specs.Expecting.{IsThere}
 use Rattle.ct_listing.specs.Leading.{one_line}
 use Rattle.ct_print.specs.Facts.{fact_text}
@@ -72,11 +79,26 @@ all_named list =
     let same : (length (map the_name list) == length list) ≡ true = grind (arith, nat_tests, length-map list the_name) in
     rw (same, each_named list) refl
 
-pub delivered_there : (s : Played) (p : ℕ) (names : List Name) → names ≡ map the_name (delivered (member_of s.rehearsal p)) →
-    NamesFit names → IsThere s p (Delivered names)
+-- the origins of what was delivered are members of the group
+origins_known : (n : ℕ) (list : List Message) → ((m : Message) → IsIn m list → is_member n m.origin ≡ true) →
+    strangers.origin n (map the_name list) ≡ None
+origins_known n [] h = refl
+origins_known n (m ∷ list) h = rw (h m (inl refl)) (origins_known n list (λ x i. h x (inr i)))
+
+delivered_known : (w : Rehearsal) (p : ℕ) → run w.setting w.steps ≡ Some (state_of w) → IsSafe w.setting (state_of w) →
+    is_member w.setting.members p ≡ true → strangers.origin w.setting.members (map the_name (delivered (member_of w p))) ≡ None
+delivered_known w p runs safe member =
+    origins_known w.setting.members (delivered (member_of w p)) (λ m i.
+    (knows-run w.setting w.steps (state_of w) runs).origin m (Values.has-in (state_of w).submitted m
+    (safe.submitted p m (grind (arith, nat_tests), grind (arith, nat_tests)) i)))
+
+pub delivered_there : (s : Played) (p : ℕ) (r : Rehearsal) (steps : List Step) (names : List Name) → r ≡ s.rehearsal → steps ≡ r.steps →
+    run r.setting steps ≡ Some (state_of r) → IsSafe r.setting (state_of r) → is_member s.rehearsal.setting.members p ≡ true →
+    names ≡ map the_name (delivered (member_of s.rehearsal p)) → NamesFit names → IsThere s p (Delivered names)
 unfolding fact_text
-delivered_there s p names e fit = record {
+delivered_there s p r steps names here is runs safe member e fit = record {
   same = rw e (all_named (delivered (member_of s.rehearsal p)));
+  known = rw e (delivered_known s.rehearsal p (rw here at (rw is at runs)) (rw here at safe) member);
   fits = fit;
   line = list_line (map name_text names) (name_pieces names);
 }
@@ -129,6 +151,7 @@ pub table_there : (s : Played) (p : ℕ) (values : List ℕ) → values ≡ tabl
 unfolding fact_text table_text
 table_there s p values e small = record {
   same = (bytes_eq-Decides (table (delivered (member_of s.rehearsal p))) values).1 (sym e);
+  known = refl;
   fits = record {
     sixteen = sixteen;
     small = λ q. elim (true_or_false (nat_lt q REGISTERS)) [

@@ -1,5 +1,5 @@
 -- What may be expected.
-use Rattle.std.specs.Prelude.{◌≡◌, ℕ, [], ◌∷◌, true}
+use Rattle.std.specs.Prelude.{◌≡◌, ℕ, [], ◌∷◌, true, None}
 use Rattle.ct_grammar.specs.declared.act.Act.{Act}
 use Rattle.ct_grammar.specs.declared.act.Act.TheVariants.{LoseFrom}
 use Rattle.ct_grammar.specs.declared.claim.Claim.TheVariants as claim
@@ -9,6 +9,7 @@ use Rattle.ct_grammar.specs.declared.term.When.TheVariants.{Now}
 use Rattle.ct_grammar.specs.declared.term.Whom.TheVariants as whom
 use Rattle.ct_play.specs.Facts.{is_as_said}
 use Rattle.ct_play.specs.Played.{Played}
+use Rattle.ct_play.specs.Strangers as strangers
 use Rattle.ct_print.specs.Facts.{fact_text}
 use Rattle.ct_listing.specs.Leading.{one_line}
 use Rattle.ct_print.specs.Writable.{FactFits}
@@ -22,8 +23,9 @@ IsLone act = Unit {0}
 abbrev pub fact_goal : ℕ → Fact → Goal
 fact_goal p fact = record { when = Now; whom = whom.One p; claim = claim.Fact fact } ∷ []
 
--- the fact is what is there at p, and can be written
+-- the fact is what is there at p, names members of the group alone, and can be written
 pub record IsThere (s : Played) (p : ℕ) (fact : Fact) : Type 0 where
   pub same : is_as_said s p fact ≡ true
+  pub known : strangers.expected s.rehearsal.setting.members fact ≡ None
   pub fits : FactFits fact
   pub line : one_line (fact_text fact) ≡ true

@@ -107,7 +107,10 @@ fn delivered(alloc: Global, stage: &Stage, member: Member) -> Result<Fact, Alloc
     requires { IsTrue (is_member stage.now.rehearsal.setting.members member) }
     ensures { IfOk result (λ fact. IsThere stage.now member fact) }
 {
-    match stage.world().delivered(member) {
+    let world = stage.world();
+    // For its clauses: what was delivered was submitted by members of the group.
+    let _ = world.record();
+    match world.delivered(member) {
         None => unreachable!(),
         Some(messages) => Ok(Fact::Delivered(names_of(alloc, messages)?)),
     }

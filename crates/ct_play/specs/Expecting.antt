@@ -1,5 +1,5 @@
 -- What lines expect.
-use Rattle.std.specs.Prelude.{ℕ, not, List, [], ◌∷◌, Option, Some, None, find, Result, Ok, Err}
+use Rattle.std.specs.Prelude.{ℕ, not, Option, Some, None, find, Result, Ok, Err}
 use Rattle.ct_grammar.specs.declared.claim.Claim.{Claim}
 use Rattle.ct_grammar.specs.declared.goal.Goal.{Goal}
 use Rattle.ct_grammar.specs.declared.term.Term.{Term}
@@ -7,28 +7,22 @@ use Rattle.ct_grammar.specs.declared.term.When.{When}
 use Rattle.ct_grammar.specs.declared.term.When.TheVariants.{Now, Ever, Never}
 use Rattle.ct_grammar.specs.declared.term.Whom.{Whom}
 use Rattle.ct_grammar.specs.declared.term.Whom.TheVariants as whom
-use Rattle.ct_grammar.specs.declared.who.Who.{Who}
-use Rattle.ct_grammar.specs.declared.who.Who.TheVariants as who
 use Rattle.ct_play.specs.Acting.{go_on}
 use Rattle.ct_play.specs.Goals.{is_met, unshown}
 use Rattle.ct_play.specs.Played.{Played}
-use Rattle.ct_play.specs.Who.{known}
+use Rattle.ct_play.specs.Strangers.{stranger}
 use Rattle.ct_play.specs.declared.line_fault.LineFault.{LineFault}
-use Rattle.ct_play.specs.declared.line_fault.LineFault.TheVariants.{NotMet}
+use Rattle.ct_play.specs.declared.line_fault.LineFault.TheVariants.{NoSuchMember, NotMet}
 
--- ---- whom terms name
+-- ---- whom goals name
 
-abbrev pub who_of : Whom → Who
-who_of (whom.One p) = who.One p
-who_of (whom.Some set) = who.Some set
-who_of whom.All = who.All
-who_of whom.Any = who.All
-who_of whom.Up = who.All
+abbrev pub unless_strange : Option ℕ → Result (Unit {0}) LineFault
+unless_strange None = Ok tt
+unless_strange (Some p) = Err (NoSuchMember p)
 
--- the members that the terms name have to be members of the group
-abbrev pub all_known : ℕ → List Term → Result (Unit {0}) LineFault
-all_known n [] = Ok tt
-all_known n (t ∷ ts) = go_on (known n (who_of t.whom)) (λ _. all_known n ts)
+-- the members that the goal names have to be members of the group
+abbrev pub all_known : ℕ → Goal → Result (Unit {0}) LineFault
+all_known n goal = unless_strange (stranger n goal)
 
 -- ---- terms that do not hold
 

@@ -12,5 +12,6 @@ pub mod Picking
 pub mod Played
 pub mod Playing
 pub mod Stating
+pub mod Strangers
 pub mod Turning
 pub mod Who

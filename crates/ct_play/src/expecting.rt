@@ -1,24 +1,24 @@
 //! What lines expect.
 
 ghost use Rattle.std.specs.Prelude.{◌≡◌, Ok, OnOk, IfOk, IfErr, option_map};
-ghost use Rattle.ct_play.specs.Expecting.{all_known, expected, expected_of, failing, failing_now, unmet, who_of};
+ghost use Rattle.ct_play.specs.Expecting.{all_known, expected, expected_of, failing, failing_now, unmet};
 ghost use Rattle.ct_play.specs.Faults.{IsFaultOf};
 
 use crate::goals::{is_met, unshown};
 use crate::line_fault::LineFault;
-use crate::naming::known;
 use crate::stage::Stage;
-use ct_grammar::{Claim, Goal, Term, When, Who, Whom};
+use crate::strangers::stranger;
+use ct_grammar::{Claim, Goal, Term, When, Whom};
 use ct_names::{Group, Member};
-use std::alloc::{AllocError, Global};
+use std::alloc::AllocError;
 
 // The members that the goal names have to be members of the group, and it has to hold.
 #[tactic(auto, unfolding(crate::specs::Expecting::expected))]
-pub(crate) fn expect(alloc: Global, stage: &Stage, goal: &Goal) -> Result<(), LineFault>
+pub(crate) fn expect(stage: &Stage, goal: &Goal) -> Result<(), LineFault>
     ensures ok { OnOk result (expected stage.now goal.now ≡ Ok stage.now) }
     ensures err { IfErr result (IsFaultOf (expected stage.now goal.now)) }
 {
-    all_known(alloc, stage.world().group(), goal)?;
+    all_known(stage.world().group(), goal)?;
     expect_of(stage, goal)
 }
 
@@ -34,26 +34,13 @@ pub(crate) fn expect_of(stage: &Stage, goal: &Goal) -> Result<(), LineFault>
 }
 
 // The members that the goal names have to be members of the group.
-pub(crate) fn all_known(alloc: Global, group: Group, goal: &Goal) -> Result<(), LineFault>
+pub(crate) fn all_known(group: Group, goal: &Goal) -> Result<(), LineFault>
     ensures ok { OnOk result (all_known group goal.now ≡ Ok tt) }
     ensures err { IfErr result (IsFaultOf (all_known group goal.now)) }
 {
-    for term in &goal.terms {
-        known(alloc, group, who_of(&term.whom))?;
-    }
-    Ok(())
-}
-
-// Whom it names.
-fn who_of(whom: &Whom) -> Who
-    ensures { result ≡ who_of whom.now }
-{
-    match whom {
-        Whom::One(member) => Who::One(*member),
-        Whom::Some(set) => Who::Some(*set),
-        Whom::All => Who::All,
-        Whom::Any => Who::All,
-        Whom::Up => Who::All,
+    match stranger(group.n(), goal) {
+        None => Ok(()),
+        Some(member) => Err(LineFault::NoSuchMember(member)),
     }
 }
 

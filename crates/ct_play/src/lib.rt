@@ -16,6 +16,7 @@ mod picking;
 mod playing;
 mod stage;
 mod stating;
+mod strangers;
 mod turning;
 mod watch;
 
@@ -30,5 +31,6 @@ pub use picking::{carried_of, picked, repeated, waiting_at, waits_at};
 pub use playing::play;
 pub use stage::Stage;
 pub use stating::push_came_to;
+pub use strangers::stranger;
 pub use turning::ended;
 pub use watch::Watch;

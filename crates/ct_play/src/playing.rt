@@ -50,7 +50,7 @@ fn play_on(alloc: Global, stage: &mut Stage, play: &Play) -> Result<(), LineFaul
         Play::Until(who, _, goal) => reach(alloc, stage, play, *who, goal),
         Play::Cut(sides) => cut(stage, *sides),
         Play::Heal => cut(stage, Sides::whole()),
-        Play::Expect(goal) => expect(alloc, stage, goal),
+        Play::Expect(goal) => expect(stage, goal),
         Play::Ask(question) => ask(stage, *question),
     }
 }

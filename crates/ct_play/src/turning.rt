@@ -290,7 +290,7 @@ pub(crate) fn reach(
     ensures later { IsLater stage.old stage.new }
 {
     let members = known(alloc, stage.world().group(), who)?;
-    all_known(alloc, stage.world().group(), goal)?;
+    all_known(stage.world().group(), goal)?;
     let mut seen = looks(alloc, stage, terms_in(play))?;
     rounds(stage, play, &members, MOST_ROUNDS, &mut seen)?;
     expect_of(stage, goal)

@@ -13,7 +13,7 @@ use Rattle.ct_listing.specs.Listing as listing
 use Rattle.ct_listing.specs.Listing.{IsRefusal}
 use Rattle.ct_play.specs.Played.{Played}
 use Rattle.ct_told.specs.declared.show_fault.ShowFault.TheVariants.{Program}
-use Rattle.ct_walk.specs.Strangers.{stranger}
+use Rattle.ct_play.specs.Strangers.{stranger}
 use Rattle.ct_shrink.specs.Naming.{IsByContent}
 use Rattle.ct_shrink.specs.Runs.{IsNeverShown, IsNoLarger, IsRunOf}
 use Rattle.ct_shrink.specs.Texts.{IsTextOf}

@@ -15,10 +15,10 @@ use crate::summary::{SmallerRun, Summary};
 use crate::writing::written;
 use ct_grammar::Goal;
 use ct_listing::replay;
+use ct_play::stranger;
 use ct_records::{ProgramFault, Script};
 use ct_streams::{Failed, Sink, Source, write_all};
 use ct_told::{ShowFault, read_told};
-use ct_walk::stranger;
 use std::alloc::Global;
 
 /// Reads a record to its end, makes its run smaller and writes that; behind a schedule stands the line that expects the goal.

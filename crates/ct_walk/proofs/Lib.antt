@@ -4,7 +4,6 @@ mod Entries
 pub mod Found
 pub mod Looping
 pub mod Nearest
-pub mod Outside
 pub mod Rounds
 pub mod Trying
 pub mod Turning

@@ -10,6 +10,5 @@ pub mod Finding
 pub mod Sizes
 pub mod Faults
 pub mod Texts
-pub mod Strangers
 pub mod Line
 pub mod Writing

@@ -24,7 +24,7 @@ use Rattle.ct_walk.specs.declared.call_fault.CallFault.TheVariants.{Memory, Word
 use Rattle.ct_walk.specs.declared.options.WalkOptions.{WalkOptions}
 use Rattle.ct_walk.specs.Options.{IsInRange}
 use Rattle.ct_walk.specs.Sights.{in_full}
-use Rattle.ct_walk.specs.Strangers.{stranger}
+use Rattle.ct_play.specs.Strangers.{stranger}
 use Rattle.ct_walk.specs.Texts.{seeds_of}
 
 -- ---- what clap reads

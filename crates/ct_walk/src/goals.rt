@@ -7,10 +7,10 @@ ghost use Rattle.ct_walk.specs.Sights.{in_full, sight_by, sight_of};
 
 use crate::call_fault::CallFault;
 use crate::sight::Sight;
-use crate::strangers::stranger;
 use clap::ArgMatches;
 use ct_grammar::{Goal, Misfit, goal_of};
 use ct_names::Member;
+use ct_play::stranger;
 use ct_streams::number_in;
 use std::alloc::{AllocError, Global};
 
