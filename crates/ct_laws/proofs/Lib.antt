@@ -2,6 +2,7 @@ pub mod Answering
 pub mod ArrowLists
 pub mod ArrowTexts
 pub mod ArrowWays
+pub mod Asking
 pub mod Cases
 pub mod Deeds
 pub mod Documents

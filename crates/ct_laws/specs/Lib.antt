@@ -1,3 +1,4 @@
+pub mod Asking
 pub mod Diagrams
 pub mod Expectations
 pub mod Facts

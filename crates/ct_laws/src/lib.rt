@@ -25,4 +25,4 @@ pub use schedules::law_schedule;
 pub use sessions::law_session;
 pub use tries::law_try;
 pub use untils::law_until;
-pub use walks::law_walk;
+pub use walks::{law_turns, law_walk};

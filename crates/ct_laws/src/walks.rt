@@ -1,6 +1,6 @@
 //! Laws of walks.
 
-ghost use Rattle.std.specs.Prelude.{◌≡◌, ◌+◌, ◌-◌, ℕ, List, None, Option, Some, false, slice_get, true};
+ghost use Rattle.std.specs.Prelude.{◌≡◌, ◌≤◌, ◌+◌, ◌-◌, ℕ, List, None, Option, Some, false, slice_get, true};
 ghost use Rattle.ct_model.specs.Rehearsal.{Rehearsal, empty, extended};
 ghost use Rattle.ct_model.specs.declared.step.Step.{Step};
 ghost use Rattle.ct_model.specs.declared.step.Step.TheVariants.{Suspect};
@@ -11,9 +11,11 @@ ghost use Rattle.ct_grammar.specs.declared.goal.Goal.{Goal};
 ghost use Rattle.ct_program.specs.FreeOptions.{setting_of};
 ghost use Rattle.ct_walk.specs.Finding.{first_of};
 ghost use Rattle.ct_walk.specs.Adversary.{tries};
-ghost use Rattle.ct_walk.specs.Walking.{Walk, answer, driven, says_yes, suspects, walked};
+ghost use Rattle.ct_walk.specs.Turns.{first_turning, tried_in};
+ghost use Rattle.ct_walk.specs.Walking.{Walk, answer, driven, most_turns, says_yes, suspects, turned, walked};
 ghost use Rattle.ct_walk.specs.declared.call.Seeds.{Seeds};
 ghost use Rattle.ct_walk.specs.declared.options.WalkOptions.{WalkOptions};
+ghost use Rattle.ct_laws.specs.Asking.{asked_for};
 ghost use Rattle.ct_laws.specs.Places.{AreAllowed, behind};
 ghost use Rattle.ct_laws.specs.Tries.{HasTurns};
 ghost use Rattle.ct_laws.specs.Walks.{HaveNoSuspicion, IsLeast, NoneBelow};
@@ -41,4 +43,14 @@ pub fn law_walk()
         IsLeast o goal seeds seed }
     ensures nowhere { (o : WalkOptions) (goal : Goal) (seeds : Seeds) → first_of o goal seeds ≡ None →
         NoneBelow o goal seeds.first (seeds.last + 1) }
+{}
+
+/// A turn tries one step, or none, and all that it does to the record is that this step joins it, where it is allowed. So one who
+/// asks for the turns of a walk one by one, from a world without steps, and does each where it is allowed, until there is none,
+/// makes that walk.
+pub fn law_turns()
+    ensures step { (o : WalkOptions) (number : ℕ) (w : Walk) →
+        (turned o number w).rehearsal ≡ after_try w.rehearsal (tried_in o number w) }
+    ensures walk { (o : WalkOptions) (n : ℕ) → most_turns o ≤ n →
+        asked_for n (first_turning o) (empty (setting_of o.run) o.run.cells) ≡ walked o None }
 {}

@@ -1,27 +1,21 @@
 -- The turns of a walk one by one.
-use Rattle.std.proofs.Common.{◌≡◌, ◌∙◌, ◌+◌, ◌≤◌, ℕ, zero, suc, Bool, true, false, Option, Some, None, Result, Ok, Err, OnOk, ap, ap₂}
-use Rattle.std.proofs.Common.{arith, refl, sym}
+use Rattle.std.proofs.Common.{◌≡◌, ◌∙◌, ◌+◌, ℕ, Bool, true, false, Option, Some, None, Result, Ok, Err, OnOk, ap, ap₂}
+use Rattle.std.proofs.Common.{refl, sym}
 use Rattle.std.specs.Prelude.{◌&&◌, ◌%◌, ◌==◌, ◌-◌, if◌then◌else◌, nat_lt, slice_get}
-use Rattle.std.proofs.lemmas.Bool.Decides.{nat_tests}
 use Rattle.ct_choices.specs.Choices.{after_try}
 use Rattle.ct_detect.specs.Seeded.{after_word, next_word}
 use Rattle.ct_grammar.specs.declared.goal.Goal.{Goal}
-use Rattle.ct_model.specs.Rehearsal.{Rehearsal, empty}
+use Rattle.ct_model.specs.Rehearsal.{Rehearsal}
 use Rattle.ct_model.specs.declared.step.Step.{Step}
-use Rattle.ct_play.specs.Goals.{is_shown}
-use Rattle.ct_program.specs.FreeOptions.{setting_of}
 use Rattle.ct_rehearse.specs.declared.disturbance.Disturbance.{Disturbance}
 use Rattle.ct_walk.specs.Adversary.{is_rare}
-use Rattle.ct_walk.specs.Shown.{is_shown_by}
-use Rattle.ct_walk.specs.Turns.{Drawing, Turning, after_told, after_turn_of, any_left, asked_for, drawing_of, drawn_tries, driver_tries}
-use Rattle.ct_walk.specs.Turns.{entry_tried, first_turning, goes_on, is_multiple, script_tries, step_of_entry, told, tried_in, turn_of}
+use Rattle.ct_walk.specs.Turns.{Drawing, any_left, drawing_of, drawn_tries, driver_tries}
+use Rattle.ct_walk.specs.Turns.{entry_tried, is_multiple, script_tries, step_of_entry, tried_in}
 use Rattle.ct_walk.specs.Turns.{turn_tries, walk_in, worker_tries}
 use Rattle.ct_walk.specs.Walking.{Walk, after_chance, after_entry, after_script, after_turn, changed, changed_now, drawn, drawn_scripts}
-use Rattle.ct_walk.specs.Walking.{driven, entered, has_left, is_due, is_struck, left_of, made_by, may_change, most_turns, start, turned}
-use Rattle.ct_walk.specs.Walking.{walked, walked_for, workers}
+use Rattle.ct_walk.specs.Walking.{driven, entered, has_left, is_due, is_struck, left_of, made_by, may_change, turned}
+use Rattle.ct_walk.specs.Walking.{workers}
 use Rattle.ct_walk.specs.declared.options.WalkOptions.{WalkOptions}
-use Rattle.ct_walk.proofs.Looping.{walk_goes}
-use Rattle.ct_walk.proofs.Untils.{turned_until}
 
 -- ---- what a turn does to the record
 
@@ -231,63 +225,3 @@ module _ (o : WalkOptions) (number : ℕ) (r : Rehearsal) (d e f : Drawing) (str
     drawn_turns g is turns =
         turns ∙ ap drawing_of (sym (turns_so false none
         ∙ ap (λ b. if b then entered (walk_in r f) 0 else drawn o (walk_in r f)) (due_so false is)))
-
--- ---- all turns
-
-told_done : (r : Rehearsal) (step : Option Step) → after_told (told step) r ≡ after_try r step
-told_done r None = refl
-told_done r (Some step) = refl
-
--- there is no turn left
-none_left : (n : ℕ) (t : Turning) (r : Rehearsal) → goes_on t ≡ false → asked_for n t r ≡ r
-unfolding asked_for turn_of after_turn_of
-none_left zero t r over = refl
-none_left (suc n) t r over = rw over (none_left n t r over)
-
-asks_on : (n : ℕ) (t : Turning) (r : Rehearsal) → goes_on t ≡ true →
-    asked_for (suc n) t r ≡ asked_for n
-    (record t { made = t.made + 1; drawing = drawing_of (turned t.options (t.made + 1) (walk_in r t.drawing)) })
-    (turned t.options (t.made + 1) (walk_in r t.drawing)).rehearsal
-unfolding asked_for turn_of after_turn_of
-asks_on n t r on =
-    rw on
-    (ap (asked_for n (record t { made = t.made + 1; drawing = drawing_of (turned t.options (t.made + 1) (walk_in r t.drawing)) }))
-    (told_done r (tried_in t.options (t.made + 1) (walk_in r t.drawing)) ∙ sym (turned_try t.options (t.made + 1) (walk_in r t.drawing))))
-
-on_is : (made most left : ℕ) → most ≡ made + suc left → nat_lt made most ≡ true
-on_is made most left is = grind (arith, nat_tests)
-
-over_is : (made most : ℕ) → most ≡ made + 0 → nat_lt made most ≡ false
-over_is made most is = grind (arith, nat_tests)
-
-none_shown : (until : Option Goal) (r : Rehearsal) → until ≡ None → is_shown_by until r ≡ false
-unfolding is_shown
-none_shown until r none = ap (λ u. is_shown_by u r) none
-
--- a walk that is made until no goal is the record of its drawing's turns
-asks_are : (left n : ℕ) (o : WalkOptions) (made most : ℕ) (v : Walk) → v.until ≡ None → most ≡ made + left → left ≤ n →
-    asked_for n (record { options = o; made = made; most = most; drawing = drawing_of v }) v.rehearsal
-    ≡ (walked_for o made left v).rehearsal
-unfolding walked_for
-asks_are zero n o made most v until is low =
-    none_left n (record { options = o; made = made; most = most; drawing = drawing_of v }) v.rehearsal (over_is made most is)
-asks_are (suc left) zero o made most v until is low = absurd (omega (arith, low))
-asks_are (suc left) (suc n) o made most v until is low =
-    let t : Turning = record { options = o; made = made; most = most; drawing = drawing_of v } in
-    let same : walk_in v.rehearsal (drawing_of v) ≡ v = ap (λ u. with_goal u v) (sym until) in
-    let x = turned o (made + 1) v in
-    let none : x.until ≡ None = turned_until o (made + 1) v ∙ until in
-    asks_on n t v.rehearsal (on_is made most left is)
-    ∙ (ap (λ w. asked_for n (record t { made = made + 1; drawing = drawing_of (turned o (made + 1) w) })
-    (turned o (made + 1) w).rehearsal) same
-    ∙ (asks_are left n o (made + 1) most x none (omega (arith, is)) (omega (arith, low))
-    ∙ ap (λ (w : Walk). w.rehearsal)
-    (sym (walk_goes o made (suc left) left v x (omega arith) refl (none_shown x.until x.rehearsal none)))))
-
-from_none : (n : ℕ) → n ≡ 0 + n
-from_none n = omega arith
-
-pub asks_walk : (o : WalkOptions) (n : ℕ) → most_turns o ≤ n →
-    asked_for n (first_turning o) (empty (setting_of o.run) o.run.cells) ≡ walked o None
-unfolding walked start
-asks_walk o n low = asks_are (most_turns o) n o 0 (most_turns o) (start o None) refl (from_none (most_turns o)) low

@@ -1,5 +1,5 @@
 -- The turns of a walk one by one, for a world that others may change between them.
-use Rattle.std.specs.Prelude.{ℕ, zero, suc, ◌+◌, ◌-◌, ◌%◌, ◌==◌, Bool, not, ◌&&◌, ◌||◌, nat_lt, List, [], length, filter, get_or}
+use Rattle.std.specs.Prelude.{ℕ, ◌+◌, ◌-◌, ◌%◌, ◌==◌, Bool, not, ◌&&◌, ◌||◌, nat_lt, List, [], length, filter, get_or}
 use Rattle.std.specs.Prelude.{slice_get, Option, Some, None, if◌then◌else◌, option_and_then}
 use Rattle.std.specs.List.{range_with_len}
 use Rattle.rand_pcg.specs.Lcg.{Lcg}
@@ -8,7 +8,6 @@ use Rattle.ct_model.specs.declared.step.Step.{Step}
 use Rattle.ct_detect.specs.Seeded.{SeededState, next_word, after_word}
 use Rattle.ct_rehearse.specs.declared.disturbance.Disturbance.{Disturbance}
 use Rattle.ct_rehearse.specs.Entries.{entry_step}
-use Rattle.ct_choices.specs.Choices.{after_try}
 use Rattle.ct_walk.specs.declared.options.WalkOptions.{WalkOptions}
 use Rattle.ct_walk.specs.declared.turn.Turn.{Turn}
 use Rattle.ct_walk.specs.declared.turn.Turn.TheVariants as turn
@@ -137,14 +136,3 @@ after_turn_of t w =
     if goes_on t
     then record t { made = t.made + 1; drawing = drawing_of (turned t.options (t.made + 1) (walk_in w t.drawing)) }
     else t
-
--- the record after what is told is done, where it is allowed
-abbrev pub after_told : Turn → Rehearsal → Rehearsal
-after_told turn.Rest w = w
-after_told turn.Over w = w
-after_told (turn.Step step) w = after_try w (Some step)
-
--- the record after so many turns are asked for, each of which is done, where it is allowed, before the next one
-unfoldable pub asked_for : ℕ → Turning → Rehearsal → Rehearsal
-asked_for zero t w = w
-asked_for (suc n) t w = asked_for n (after_turn_of t w) (after_told (turn_of t w) w)

@@ -1,5 +1,6 @@
-use Rattle.ct_walk.proofs.Turning.{asks_walk, turned_try}
-use Rattle.ct_walk.proofs.law.law_turns.Goals as goal
+use Rattle.ct_walk.proofs.Turning.{turned_try}
+use Rattle.ct_laws.proofs.Asking.{asks_walk}
+use Rattle.ct_laws.proofs.walks.law_turns.Goals as goal
 
 pub returns-clause-step : goal.returns-clause-step
 returns-clause-step c = turned_try
