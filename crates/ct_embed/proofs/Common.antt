@@ -7,8 +7,7 @@ pub use Rattle.std_alloc.specs.Box.Ownership.{box_owns}
 pub use Rattle.core.proofs.alloc.Calls.{Al, Fits, Goes-blank, handle_tells, token, α}
 pub use Rattle.ct_embed.specs.MessageCodes.{message_code}
 pub use Rattle.ct_embed.specs.StepCodes.{step_code}
-pub use Rattle.ct_embed.specs.Telling.{hush}
-pub use Rattle.ct_model.specs.Rehearsal.{Rehearsal, empty}
+pub use Rattle.ct_model.specs.Rehearsal.{Rehearsal}
 pub use Rattle.ct_names.specs.declared.refusal.Refusal.{Refusal}
 pub use Rattle.ct_world.specs.Replay.{AllowsFirst, IsFaultOf, first_steps}
 pub use base.Fml.{Lft, Share, flft, fsep, ftrue}
@@ -26,7 +25,7 @@ pub use denote.Triple.Statement.{Contract, Triple}
 pub use denote.Triple.Table.{entered}
 pub use denote.Triple.Walked.{Stays, ends_at, says, stay_dropped, walk_Meets, walk_of}
 pub use lib.Dec.{T, lit<}
-pub use mathlib.Core.Bool.{Bool, false, true}
+pub use mathlib.Core.Bool.{true}
 pub use mathlib.Core.List.{List, [], ◌++◌, ◌∷◌}
 pub use mathlib.Core.Path.{refl, subst, sym}
 pub use mir.MapTy.{inst_fn}

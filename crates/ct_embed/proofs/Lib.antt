@@ -3,6 +3,7 @@ pub mod AtHeap
 pub mod Common
 pub mod Copying
 pub mod Hearing
+pub mod Holding
 pub mod Rooms
 pub mod Stepping
 pub mod Unopened

@@ -1,18 +1,18 @@
 -- What contracts see of what a caller holds: the record of a world, what a session was told, or where a walk is; None where it is closed.
 use Rattle.std.specs.Prelude.{Option}
 use Rattle.ct_model.specs.Rehearsal.{Rehearsal}
-use Rattle.ct_embed.specs.declared.held_session.HeldSession.{HeldSession}
 use Rattle.ct_walk.specs.Turns.{Turning}
+use Rattle.ct_embed.specs.Content.{world_of, session_of, walk_of}
+use Rattle.ct_embed.specs.Telling.{Talk}
+use Rattle.ct_embed.specs.declared.held_session.HeldSession.{HeldSession}
 use Rattle.ct_embed.specs.declared.held_walk.HeldWalk.{HeldWalk}
 use Rattle.ct_embed.specs.declared.held_world.HeldWorld.{HeldWorld}
-use Rattle.ct_embed.specs.Seen.{seen}
-use Rattle.ct_embed.specs.Telling.{Talk}
 
 abbrev pub world_in : HeldWorld → Option Rehearsal
-world_in held = seen held.is_open held.handle.value
+world_in held = world_of held.handle.content
 
 abbrev pub talk_in : HeldSession → Option Talk
-talk_in held = seen held.is_open held.handle.value
+talk_in held = session_of held.handle.content
 
 abbrev pub walk_in : HeldWalk → Option Turning
-walk_in held = seen held.is_open held.handle.value
+walk_in held = walk_of held.handle.content

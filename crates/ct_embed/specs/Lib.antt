@@ -1,4 +1,5 @@
 pub mod Applying
+pub mod Content
 pub mod Held
 pub mod LetterCodes
 pub mod MessageCodes

@@ -1,12 +1,16 @@
--- What a handle owns: a world, a walk or a session in a box, or nothing.
-use Rattle.std.specs.Prelude.{Bool, true, false}
+-- What a handle owns: the box of what it holds.
 use base.Fml.{Fml, ftrue}
-use denote.RattleType.{RattleType}
 use denote.RawPtr.{Ptr}
 use Rattle.std.specs.declared.alloc.Global.{Global}
 use Rattle.std.specs.contracts.impls.GlobalAllocator.TheImpl.{ghosts}
 use Rattle.std.specs.Box.Ownership.{box_owns}
+use Rattle.ct_embed.specs.Content.{Content, nothing, a_world, a_session, a_walk}
+use Rattle.ct_embed.specs.contracts.own_session.OwnSession as sessions
+use Rattle.ct_embed.specs.contracts.own_world.OwnWorld as worlds
+use Rattle.ct_walk.specs.contracts.turns.Turns as walks
 
-abbrev pub owned : (R : RattleType) → Bool → Global → Ptr → R.Denot → Fml
-owned R true a p x = box_owns (ghosts.dealloc_token a) R p x
-owned R false a p x = ftrue
+abbrev pub owned : Content → Global → Ptr → Fml
+owned nothing a p = ftrue
+owned (a_world w) a p = box_owns (ghosts.dealloc_token a) worlds.the_row p w
+owned (a_session s) a p = box_owns (ghosts.dealloc_token a) sessions.the_row p s
+owned (a_walk w) a p = box_owns (ghosts.dealloc_token a) walks.the_row p w

@@ -1,5 +1,5 @@
 -- What contracts see of a world, a walk or a session that its caller holds.
-use Rattle.std.specs.Prelude.{Bool, true, false, ℕ, List, drop, Option, Some, None, option_and_then, option_map}
+use Rattle.std.specs.Prelude.{ℕ, List, drop, Option, option_and_then, option_map}
 use Rattle.ct_names.specs.Message.{Message}
 use Rattle.ct_model.specs.Mapped.{without_value}
 use Rattle.ct_model.specs.Received.{decided, received_by}
@@ -10,11 +10,6 @@ use Rattle.ct_model.specs.declared.envelope.Envelope.{Envelope}
 use Rattle.ct_model.specs.Wire.{value_of}
 use Rattle.ct_table.specs.Table.{table}
 use Rattle.ct_world.specs.World.{member_of, of_member, if_member}
-
--- what the handle holds, if it is open
-abbrev pub seen : {A : Type 0} → Bool → A → Option A
-seen true x = Some x
-seen false x = None
 
 -- ---- what is there of a world; None where it is closed, and where there is none
 

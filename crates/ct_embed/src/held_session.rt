@@ -1,47 +1,66 @@
 //! A session as its caller holds it.
 
-ghost use Rattle.std.specs.Prelude.{◌≡◌, Option, Some, None, option_map, true, false};
-ghost use Rattle.ct_embed.specs.Seen.{seen};
+ghost use Rattle.std.specs.Prelude.{◌≡◌, Some, None, option_map, is_some, true};
+ghost use Rattle.ct_embed.specs.Content.{a_session, session_of};
 
+use crate::handle::Handle;
 use crate::own_session::OwnSession;
 use crate::parts::Parts;
-use crate::session_handle::SessionHandle;
 use std::alloc::Global;
 
 /// A session, as its caller holds it: zeros before it is opened and once it is closed.
 #[repr(C)]
 #[derive(Drop)]
 pub struct HeldSession {
-    pub handle: SessionHandle,
+    pub handle: Handle,
     pub is_open: bool,
-    pub ghost same: { is_open ≡ handle.held },
+    pub ghost same: { is_open ≡ is_some (session_of handle.content) },
 }
 
 impl HeldSession {
     // Takes the session out, and leaves nothing.
     pub(crate) fn take(&mut self, alloc: Global) -> Option<Box<OwnSession>>
-        ensures was { option_map (λ own. own.value) result ≡ seen self.old.is_open self.old.handle.value }
-        ensures is { self.new.is_open ≡ false }
+        ensures was { option_map (λ own. own.value) result ≡ session_of self.old.handle.content }
+        ensures is { session_of self.new.handle.content ≡ None }
     {
         if !self.is_open {
             return None;
         }
-        let none = HeldSession {
-            handle: SessionHandle::none(alloc),
-            is_open: false,
-        };
-        let HeldSession { handle, .. } = std::mem::replace(self, none);
-        Some(handle.into_parts().into_box())
+        let handle = std::mem::replace(&mut self.handle, Handle::none(alloc));
+        self.is_open = false;
+        Some(handle.into_session().into_box())
     }
 
     // Puts one in.
     pub(crate) fn put(&mut self, own: Box<OwnSession>)
-        ensures is { self.new.is_open ≡ true }
-        ensures value { self.new.handle.value ≡ own.value }
+        ensures { session_of self.new.handle.content ≡ Some own.value }
     {
-        *self = HeldSession {
-            handle: SessionHandle::hold(Parts::of(own)),
-            is_open: true,
-        };
+        self.handle = Handle::of_session(Parts::of(own));
+        self.is_open = true;
+    }
+}
+
+impl Handle {
+    // Holds what the parts own.
+    fn of_session(own: Parts<OwnSession, Global>) -> Handle
+        ensures { result.content ≡ a_session own.value }
+    {
+        let Parts { ptr, alloc } = own;
+        Handle {
+            at: ptr as *mut u8,
+            alloc,
+        }
+    }
+
+    // Gives the session up.
+    fn into_session(self) -> Parts<OwnSession, Global>
+        requires { is_some (session_of self.content) ≡ true }
+        ensures { self.content ≡ a_session result.value }
+    {
+        let Handle { at, alloc } = self;
+        Parts {
+            ptr: at as *mut OwnSession,
+            alloc,
+        }
     }
 }

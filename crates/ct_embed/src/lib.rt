@@ -3,6 +3,7 @@
 
 mod applied;
 mod drawing;
+mod handle;
 mod held_session;
 mod held_walk;
 mod held_world;
@@ -20,17 +21,15 @@ mod room;
 mod said;
 mod sent;
 mod session_calls;
-mod session_handle;
 mod standing_code;
 mod step_code;
 mod turn_code;
 mod version;
 mod walk_calls;
-mod walk_handle;
 mod world_calls;
-mod world_handle;
 
 pub use applied::Applied;
+pub use handle::Handle;
 pub use held_session::HeldSession;
 pub use held_walk::HeldWalk;
 pub use held_world::HeldWorld;
@@ -38,9 +37,6 @@ pub use letter_code::LetterCode;
 pub use message_code::MessageCode;
 pub use opened::Opened;
 pub use options_code::OptionsCode;
-pub use session_handle::SessionHandle;
 pub use standing_code::StandingCode;
 pub use step_code::StepCode;
 pub use turn_code::TurnCode;
-pub use walk_handle::WalkHandle;
-pub use world_handle::WorldHandle;
