@@ -2,6 +2,7 @@
 #![tactic(auto)]
 
 mod applied;
+mod asked;
 mod drawing;
 mod handle;
 mod held_session;

@@ -22,8 +22,7 @@ pub extern "C" fn ct_open_record(world: &mut HeldWorld, text: &[u8], alloc: Glob
     ensures err { world_in world.old ≡ None → result.refusal ≢ 0 → IsUnopened (script text.now) result }
     ensures same { result.refusal ≢ 0 → world_in world.new ≡ world_in world.old }
 {
-    if let Some(own) = world.take(alloc) {
-        world.put(own);
+    if world.is_open {
         return Opened::refused(ALREADY_OPEN, 0);
     }
     match world_of(alloc, text) {
@@ -51,8 +50,5 @@ fn world_of(alloc: Global, text: &[u8]) -> Result<Box<OwnWorld>, Opened>
         Ok(own) => own,
         Err(fault) => return Err(Opened::refused(refusal_number(fault.refusal), fault.at)),
     };
-    match Box::new(alloc, own) {
-        Ok(own) => Ok(own),
-        Err(_) => Err(Opened::refused(OUT_OF_MEMORY, 0)),
-    }
+    Box::new(alloc, own).map_err(|_| Opened::refused(OUT_OF_MEMORY, 0))
 }

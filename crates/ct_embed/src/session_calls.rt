@@ -8,6 +8,7 @@ ghost use Rattle.ct_embed.specs.Rooms.{count_of, filled};
 ghost use Rattle.ct_embed.specs.Held.{talk_in};
 ghost use Rattle.ct_embed.specs.Telling.{IsWhole, drawn_steps, hush, rehearsal_in, told};
 
+use crate::asked::asked;
 use crate::held_session::HeldSession;
 use crate::numbers::{ALREADY_OPEN, BOARD, NO_WORLD, NOT_OPEN, OUT_OF_MEMORY, TOO_LONG};
 use crate::own_session::OwnSession;
@@ -71,12 +72,7 @@ pub extern "C" fn ct_answers_length(session: &mut HeldSession, alloc: Global) ->
     ensures value { result ≡ count_of (option_map (λ t. t.said) (talk_in session.old)) }
     ensures same { talk_in session.new ≡ talk_in session.old }
 {
-    let Some(own) = session.take(alloc) else {
-        return NONE;
-    };
-    let count = own.said().len();
-    session.put(own);
-    count
+    asked!(own in session, alloc else NONE => own.said().len())
 }
 
 /// Copies the bytes that wait.
@@ -86,12 +82,7 @@ pub extern "C" fn ct_answers(session: &mut HeldSession, room: &mut [u8], alloc: 
     ensures room { room.new ≡ filled (option_map (λ t. t.said) (talk_in session.old)) room.old }
     ensures same { talk_in session.new ≡ talk_in session.old }
 {
-    let Some(own) = session.take(alloc) else {
-        return NONE;
-    };
-    let count = copy_bytes(own.said(), room);
-    session.put(own);
-    count
+    asked!(own in session, alloc else NONE => copy_bytes(own.said(), room))
 }
 
 /// The record, as JSON, waits to be copied.
@@ -105,12 +96,7 @@ pub extern "C" fn ct_record(session: &mut HeldSession, alloc: Global) -> u32
         result ≡ 0 → IfSome (talk_in session.new) (λ new. new.said ≡ record_text w))) }
     ensures err { result ≢ 0 → IfSome (talk_in session.new) (λ new. new.said ≡ []) }
 {
-    let Some(mut own) = session.take(alloc) else {
-        return NOT_OPEN;
-    };
-    let answer = own.show_record(alloc);
-    session.put(own);
-    answer
+    asked!(own in session, alloc else NOT_OPEN => own.show_record(alloc))
 }
 
 /// The diagram, as SVG, waits to be copied.
@@ -125,10 +111,5 @@ pub extern "C" fn ct_diagram(session: &mut HeldSession, alloc: Global) -> u32
     ensures long { IfSome (talk_in session.old) (λ t. IfSome (rehearsal_in t) (λ w. result ≡ TOO_LONG → MOST_STEPS < drawn_steps w)) }
     ensures err { result ≢ 0 → IfSome (talk_in session.new) (λ new. new.said ≡ []) }
 {
-    let Some(mut own) = session.take(alloc) else {
-        return NOT_OPEN;
-    };
-    let answer = own.show_diagram(alloc);
-    session.put(own);
-    answer
+    asked!(own in session, alloc else NOT_OPEN => own.show_diagram(alloc))
 }

@@ -1,7 +1,7 @@
 //! Steps by their numbers.
 
 ghost use Rattle.std.specs.Prelude.{◌≡◌};
-ghost use Rattle.ct_embed.specs.StepCodes.{behind_code, command_of, plain_step, short_step, step_code, step_of};
+ghost use Rattle.ct_embed.specs.StepCodes.{behind_code, code, command_of, plain_step, short_step, step_code, step_of};
 
 use ct_model::Step;
 use ct_names::{Command, Member};
@@ -18,6 +18,19 @@ pub struct StepCode {
 }
 
 impl StepCode {
+    /// The step of these numbers.
+    pub(crate) fn new(kind: u8, member: Member, a: u32, b: u8, c: u64) -> StepCode
+        ensures { result ≡ code kind member a b c }
+    {
+        StepCode {
+            c,
+            a,
+            b,
+            kind,
+            member,
+        }
+    }
+
     /// The numbers of no step.
     pub(crate) fn none() -> StepCode
         ensures { result ≡ behind_code 0 0 0 }
@@ -55,25 +68,13 @@ impl StepCode {
             Command::Add(register, amount) => (2, register, amount),
             Command::Copy(from, to) => (3, from, u64::from(to)),
         };
-        StepCode {
-            c,
-            a,
-            b,
-            kind: 1,
-            member,
-        }
+        StepCode::new(1, member, a, b, c)
     }
 
     fn behind(kind: u8, member: Member, a: u32) -> StepCode
         ensures { result ≡ behind_code kind member a }
     {
-        StepCode {
-            c: 0,
-            a,
-            b: 0,
-            kind,
-            member,
-        }
+        StepCode::new(kind, member, a, 0, 0)
     }
 
     /// The step that has these numbers, if one has.

@@ -6,6 +6,7 @@ ghost use Rattle.ct_embed.specs.Held.{walk_in, world_in};
 ghost use Rattle.ct_embed.specs.Opening.{IsNumber};
 ghost use Rattle.ct_embed.specs.WalkCodes.{IsWalk, options_of, turn_told, walk_after};
 
+use crate::asked::asked;
 use crate::held_walk::HeldWalk;
 use crate::held_world::HeldWorld;
 use crate::numbers::{ALREADY_OPEN, BAD_OPTIONS, OUT_OF_MEMORY};
@@ -24,8 +25,7 @@ pub extern "C" fn ct_walk_open(walk: &mut HeldWalk, options: &OptionsCode, alloc
     ensures same { result ≢ 0 → walk_in walk.new ≡ walk_in walk.old }
     ensures err { IsNumber result (0 ∷ ALREADY_OPEN ∷ BAD_OPTIONS ∷ OUT_OF_MEMORY ∷ []) }
 {
-    if let Some(own) = walk.take(alloc) {
-        walk.put(own);
+    if walk.is_open {
         return ALREADY_OPEN;
     }
     let Some(options) = options.walk() else {
@@ -34,13 +34,11 @@ pub extern "C" fn ct_walk_open(walk: &mut HeldWalk, options: &OptionsCode, alloc
     let Ok(turns) = Turns::new(alloc, &options) else {
         return OUT_OF_MEMORY;
     };
-    match Box::new(alloc, turns) {
-        Ok(own) => {
-            walk.put(own);
-            0
-        }
-        Err(_) => OUT_OF_MEMORY,
-    }
+    let Ok(own) = Box::new(alloc, turns) else {
+        return OUT_OF_MEMORY;
+    };
+    walk.put(own);
+    0
 }
 
 /// Closes the walk, if it is open.
@@ -62,12 +60,7 @@ pub extern "C" fn ct_walk_turn(
     ensures after { walk_in walk.new ≡ walk_after (walk_in walk.old) (world_in world.old) }
     ensures same { world_in world.new ≡ world_in world.old }
 {
-    let Some(own) = world.take(alloc) else {
-        return TurnCode::none();
-    };
-    let code = turn_in(walk, own.stage(), alloc);
-    world.put(own);
-    code
+    asked!(own in world, alloc else TurnCode::none() => turn_in(walk, own.stage(), alloc))
 }
 
 // The same in a world that is open.
@@ -75,10 +68,5 @@ fn turn_in(walk: &mut HeldWalk, stage: &Stage, alloc: Global) -> TurnCode
     ensures value { result ≡ turn_told (walk_in walk.old) (Some stage.now.rehearsal) }
     ensures after { walk_in walk.new ≡ walk_after (walk_in walk.old) (Some stage.now.rehearsal) }
 {
-    let Some(mut own) = walk.take(alloc) else {
-        return TurnCode::none();
-    };
-    let code = TurnCode::of(&own.next(stage));
-    walk.put(own);
-    code
+    asked!(own in walk, alloc else TurnCode::none() => TurnCode::of(&own.next(stage)))
 }

@@ -22,6 +22,7 @@ ghost use Rattle.ct_embed.specs.StandingCodes.{standing_code};
 ghost use Rattle.ct_embed.specs.StepCodes.{code, next_code, step_code, step_of};
 
 use crate::applied::Applied;
+use crate::asked::asked;
 use crate::held_world::HeldWorld;
 use crate::letter_code::LetterCode;
 use crate::message_code::MessageCode;
@@ -50,8 +51,7 @@ pub extern "C" fn ct_world_open(
     ensures same { result ≢ 0 → world_in world.new ≡ world_in world.old }
     ensures err { IsNumber result (0 ∷ ALREADY_OPEN ∷ BAD_SETUP ∷ OUT_OF_MEMORY ∷ []) }
 {
-    if let Some(own) = world.take(alloc) {
-        world.put(own);
+    if world.is_open {
         return ALREADY_OPEN;
     }
     let Some(setup) = setup_of(members, cells, bound) else {
@@ -60,13 +60,11 @@ pub extern "C" fn ct_world_open(
     let Ok(own) = OwnWorld::new(alloc, setup) else {
         return OUT_OF_MEMORY;
     };
-    match Box::new(alloc, own) {
-        Ok(own) => {
-            world.put(own);
-            0
-        }
-        Err(_) => OUT_OF_MEMORY,
-    }
+    let Ok(own) = Box::new(alloc, own) else {
+        return OUT_OF_MEMORY;
+    };
+    world.put(own);
+    0
 }
 
 /// Closes the world, if it is open.
@@ -111,13 +109,11 @@ fn copy_into(own: &OwnWorld, into: &mut HeldWorld, alloc: Global) -> u32
         Ok(copy) => copy,
         Err(refusal) => return refusal_number(refusal),
     };
-    match Box::new(alloc, copy) {
-        Ok(copy) => {
-            into.put(copy);
-            0
-        }
-        Err(_) => OUT_OF_MEMORY,
-    }
+    let Ok(copy) = Box::new(alloc, copy) else {
+        return OUT_OF_MEMORY;
+    };
+    into.put(copy);
+    0
 }
 
 /// Does the step with these numbers.
@@ -147,28 +143,19 @@ pub extern "C" fn ct_apply(
     ensures runs { IfSome (world_in world.new) (λ w. run w.setting w.steps ≡ Some (state_of w)) }
     ensures safe { IfSome (world_in world.new) (λ w. IsSafe w.setting (state_of w)) }
 {
-    let Some(mut own) = world.take(alloc) else {
-        return Applied::refused(NOT_OPEN);
-    };
-    let code = StepCode {
-        c,
-        a,
-        b,
-        kind,
-        member,
-    };
-    let step = code.step();
-    let applied = match &step {
-        None => Applied::refused(BAD_STEP),
-        Some(step) => match own.apply(step) {
-            Ok(sent) => Applied::done(sent),
-            Err(refusal) => Applied::refused(refusal_number(refusal)),
-        },
-    };
-    // For its clauses: the record is a run, and the state is safe.
-    let _ = own.world().record();
-    world.put(own);
-    applied
+    asked!(own in world, alloc else Applied::refused(NOT_OPEN) => {
+        let step = StepCode::new(kind, member, a, b, c).step();
+        let applied = match &step {
+            None => Applied::refused(BAD_STEP),
+            Some(step) => match own.apply(step) {
+                Ok(sent) => Applied::done(sent),
+                Err(refusal) => Applied::refused(refusal_number(refusal)),
+            },
+        };
+        // For its clauses: the record is a run, and the state is safe.
+        let _ = own.world().record();
+        applied
+    })
 }
 
 /// Why the step with these numbers would be refused.
@@ -189,25 +176,13 @@ pub extern "C" fn ct_enabled(
         result ≡ verdict_number (cause w step))) }
     ensures same { world_in world.new ≡ world_in world.old }
 {
-    let Some(own) = world.take(alloc) else {
-        return NOT_OPEN;
-    };
-    let code = StepCode {
-        c,
-        a,
-        b,
-        kind,
-        member,
-    };
-    let answer = match code.step() {
+    asked!(own in world, alloc else NOT_OPEN => match StepCode::new(kind, member, a, b, c).step() {
         None => BAD_STEP,
         Some(step) => match own.world().enabled(&step) {
             Ok(()) => 0,
             Err(refusal) => refusal_number(refusal),
         },
-    };
-    world.put(own);
-    answer
+    })
 }
 
 /// The step that a driver does next at a member.
@@ -216,15 +191,10 @@ pub extern "C" fn ct_next(world: &mut HeldWorld, member: u8, alloc: Global) -> S
     ensures value { result ≡ next_code (option_and_then (λ w. next_local w member) (world_in world.old)) }
     ensures same { world_in world.new ≡ world_in world.old }
 {
-    let Some(own) = world.take(alloc) else {
-        return StepCode::none();
-    };
-    let code = match own.world().next_local(member) {
+    asked!(own in world, alloc else StepCode::none() => match own.world().next_local(member) {
         None => StepCode::none(),
         Some(step) => StepCode::of(&step),
-    };
-    world.put(own);
-    code
+    })
 }
 
 /// Where a member stands.
@@ -233,12 +203,7 @@ pub extern "C" fn ct_standing_of(world: &mut HeldWorld, member: u8, alloc: Globa
     ensures value { result ≡ standing_code member (member_in (world_in world.old) member) }
     ensures same { world_in world.new ≡ world_in world.old }
 {
-    let Some(own) = world.take(alloc) else {
-        return StandingCode::none();
-    };
-    let code = StandingCode::of(own.world(), member);
-    world.put(own);
-    code
+    asked!(own in world, alloc else StandingCode::none() => StandingCode::of(own.world(), member))
 }
 
 /// The steps of the record from a place on.
@@ -253,13 +218,10 @@ pub extern "C" fn ct_steps(
     ensures room { room.new ≡ filled (option_map (map step_code) (steps_in (world_in world.old) from)) room.old }
     ensures same { world_in world.new ≡ world_in world.old }
 {
-    let Some(own) = world.take(alloc) else {
-        return NONE;
-    };
-    let record = own.world().record();
-    let count = copy_steps(&record[from.min(record.len())..], room);
-    world.put(own);
-    count
+    asked!(own in world, alloc else NONE => {
+        let record = own.world().record();
+        copy_steps(&record[from.min(record.len())..], room)
+    })
 }
 
 /// The envelope of a serial.
@@ -268,12 +230,7 @@ pub extern "C" fn ct_envelope(world: &mut HeldWorld, serial: u32, alloc: Global)
     ensures value { result ≡ letter_code (envelope_in (world_in world.old) serial) }
     ensures same { world_in world.new ≡ world_in world.old }
 {
-    let Some(own) = world.take(alloc) else {
-        return LetterCode::of(None);
-    };
-    let code = LetterCode::of(own.world().letter(serial));
-    world.put(own);
-    code
+    asked!(own in world, alloc else LetterCode::of(None) => LetterCode::of(own.world().letter(serial)))
 }
 
 /// The registers of a member.
@@ -288,12 +245,7 @@ pub extern "C" fn ct_table(
     ensures room { room.new ≡ filled (table_in (world_in world.old) member) room.old }
     ensures same { world_in world.new ≡ world_in world.old }
 {
-    let Some(own) = world.take(alloc) else {
-        return NONE;
-    };
-    let count = copy_table(own.world().table(member), room);
-    world.put(own);
-    count
+    asked!(own in world, alloc else NONE => copy_table(own.world().table(member), room))
 }
 
 /// What waits at a member.
@@ -308,12 +260,7 @@ pub extern "C" fn ct_waiting(
     ensures room { room.new ≡ filled (waiting_in (world_in world.old) member) room.old }
     ensures same { world_in world.new ≡ world_in world.old }
 {
-    let Some(own) = world.take(alloc) else {
-        return NONE;
-    };
-    let count = copy_serials(own.world().waiting(member), room);
-    world.put(own);
-    count
+    asked!(own in world, alloc else NONE => copy_serials(own.world().waiting(member), room))
 }
 
 /// The value that an envelope carries.
@@ -328,12 +275,7 @@ pub extern "C" fn ct_value(
     ensures room { room.new ≡ filled (option_map (map message_code) (value_in (world_in world.old) serial)) room.old }
     ensures same { world_in world.new ≡ world_in world.old }
 {
-    let Some(own) = world.take(alloc) else {
-        return NONE;
-    };
-    let count = copy_messages(own.world().value(serial), room);
-    world.put(own);
-    count
+    asked!(own in world, alloc else NONE => copy_messages(own.world().value(serial), room))
 }
 
 /// What a member received.
@@ -348,12 +290,7 @@ pub extern "C" fn ct_received(
     ensures room { room.new ≡ filled (option_map (map message_code) (received_in (world_in world.old) member)) room.old }
     ensures same { world_in world.new ≡ world_in world.old }
 {
-    let Some(own) = world.take(alloc) else {
-        return NONE;
-    };
-    let count = copy_messages(own.world().received(member), room);
-    world.put(own);
-    count
+    asked!(own in world, alloc else NONE => copy_messages(own.world().received(member), room))
 }
 
 /// What a member delivered.
@@ -368,12 +305,7 @@ pub extern "C" fn ct_delivered(
     ensures room { room.new ≡ filled (option_map (map message_code) (delivered_in (world_in world.old) member)) room.old }
     ensures same { world_in world.new ≡ world_in world.old }
 {
-    let Some(own) = world.take(alloc) else {
-        return NONE;
-    };
-    let count = copy_messages(own.world().delivered(member), room);
-    world.put(own);
-    count
+    asked!(own in world, alloc else NONE => copy_messages(own.world().delivered(member), room))
 }
 
 /// The decision that a member got for an instance.
@@ -389,12 +321,7 @@ pub extern "C" fn ct_decided(
     ensures room { room.new ≡ filled (option_map (map message_code) (decided_in (world_in world.old) member instance)) room.old }
     ensures same { world_in world.new ≡ world_in world.old }
 {
-    let Some(own) = world.take(alloc) else {
-        return NONE;
-    };
-    let count = copy_messages(own.world().decided(member, instance), room);
-    world.put(own);
-    count
+    asked!(own in world, alloc else NONE => copy_messages(own.world().decided(member, instance), room))
 }
 
 // The setup of these three, if they are one.
