@@ -11,7 +11,7 @@ use Rattle.ct_shrink.specs.Lines.{after_line}
 use Rattle.ct_shrink.specs.Runs.{IsFirstOf, IsNeverShown, shows_after}
 use Rattle.ct_shrink.specs.declared.line.Line.{Line}
 use Rattle.ct_shrink.proofs.Leading.{IsLed, none_led, one_led}
-use Rattle.ct_shrink.proofs.Trials.{shown_run}
+use Rattle.ct_shrink.proofs.Tried.{shown_run}
 
 -- the stage is that of so many steps, with these lines, and no beginning before it shows the goal
 pub record IsBegun (test : Played → Bool) (setup : Setup) (steps : List Step) (i : ℕ) (lines : List Line) (s : Played) : Type 0 where

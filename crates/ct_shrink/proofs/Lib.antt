@@ -4,4 +4,5 @@ pub mod Leading
 pub mod Named
 pub mod Reading
 pub mod Smaller
-pub mod Trials
+pub mod Telling
+pub mod Tried

@@ -7,8 +7,8 @@ use Rattle.ct_world.specs.declared.setup.Setup.{Setup}
 use Rattle.ct_play.specs.Goals.{uncut}
 use Rattle.ct_play.specs.Played.{Played}
 use Rattle.ct_shrink.specs.Lines.{after_taken, taken}
-use Rattle.ct_shrink.specs.Shrinking.{IsNoSmaller}
-use Rattle.ct_shrink.specs.Trials.{behind, trial, tried}
+use Rattle.ct_shrink.specs.Shrinking.{IsNoSmaller, IsLeastBy}
+use Rattle.ct_shrink.specs.Trials.{IsLeast, behind, trial, tried}
 use Rattle.ct_shrink.specs.declared.line.Line.{Line}
 
 -- what is left has no more lines than so many
@@ -39,9 +39,13 @@ fewer None few many lt h k = refl
 fewer (Some lines) few many lt h k = absurd (omega (arith, lt, h, k))
 
 -- a trial without a line that leaves no smaller run fails
-pub none_without : (test : Played → Bool) (setup : Setup) (lines : List Line) (i : ℕ) → i < length lines →
+none_without : (test : Played → Bool) (setup : Setup) (lines : List Line) (i : ℕ) → i < length lines →
     IsNoSmaller (trial test setup (remove lines i)) (length lines) → trial test setup (remove lines i) ≡ None
 unfolding trial
 none_without test setup lines i lt h =
     fewer (trial test setup (remove lines i)) (length (remove lines i)) (length lines) (omega (arith, length-remove lines i lt))
     (tried_no_more test (uncut (record_of setup [])) (remove lines i)) h
+
+-- a run of which no trial without a line leaves a smaller one can do without none
+pub least : (test : Played → Bool) (setup : Setup) (lines : List Line) → IsLeastBy (trial test setup) lines → IsLeast test setup lines
+least test setup lines h i lt = none_without test setup lines i lt (h i lt)

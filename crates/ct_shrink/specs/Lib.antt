@@ -3,6 +3,7 @@ pub mod Naming
 pub mod Runs
 pub mod Trials
 pub mod Shrinking
+pub mod Asking
 pub mod Faults
 pub mod Line
 pub mod Summaries

@@ -1,35 +1,43 @@
--- How a run gets smaller.
-use Rattle.std.specs.Prelude.{◌≡◌, ◌≤◌, ⊤, ℕ, All, List, Option, Some, None, IfSome, length, option_map}
-use Rattle.ct_play.specs.Goals.{shows}
-use Rattle.ct_shrink.specs.Naming.{IsByContent}
-use Rattle.ct_shrink.specs.Runs.{IsRunOf}
-use Rattle.ct_shrink.specs.Trials.{IsLeast, trial}
-use Rattle.ct_shrink.specs.declared.shrinking.Job.{Job}
-use Rattle.ct_shrink.specs.declared.kept_run.KeptRun.{KeptRun}
+-- Runs that get smaller trial by trial, whoever makes the trials.
+use Rattle.std.specs.Prelude.{⊤, ℕ, ◌<◌, ◌≤◌, nat_lt, List, [], Option, Some, None, length, remove, if◌then◌else◌}
 use Rattle.ct_shrink.specs.declared.line.Line.{Line}
-use Rattle.ct_shrink.specs.declared.shrinking.Shrinking.{Shrinking}
 
--- the run shows the goal, its lines name envelopes by what they carry, and no more trials were made than may be
-pub record Shows (job : Job) (s : Shrinking) : Type 0 where
-  pub run : IsRunOf (shows job.goal.now) job.setup s.run.lines.items s.run.world.rehearsal
-  pub named : All IsByContent s.run.lines.items
-  pub few : s.trials ≤ job.most
+-- the smallest run so far; the lines whose trial is asked for; so many of its first lines were left out in vain; how many trials
+-- were made, and how many may be
+pub record Shrinking : Type 0 where
+  pub lines : List Line
+  pub asked : Option (List Line)
+  pub settled : ℕ
+  pub made : ℕ
+  pub most : ℕ
 
--- the new run shows it too, and has no more lines
-pub record Shrinks (job : Job) (old new : Shrinking) : Type 0 where
-  pub shows : Shows job new
-  pub no_more : length new.run.lines.items ≤ length old.run.lines.items
+-- before the first trial
+abbrev pub first_shrinking : List Line → ℕ → Shrinking
+first_shrinking lines most = record { lines = lines; asked = None; settled = 0; made = 0; most = most }
 
--- no line of the run can be left out
-abbrev pub IsSmallest : Job → Shrinking → Type 0
-IsSmallest job s = IsLeast (shows job.goal.now) job.setup s.run.lines.items
+-- these lines, if any
+abbrev pub lines_of : Option (List Line) → List Line
+lines_of None = []
+lines_of (Some lines) = lines
 
--- this is what the trial of the lines left
-pub record IsTrialOf (job : Job) (lines : List Line) (kept : Option KeptRun) : Type 0 where
-  pub left : option_map (λ (run : KeptRun). run.lines.items) kept ≡ trial (shows job.goal.now) job.setup lines
-  pub run : IfSome kept (λ (run : KeptRun). IsRunOf (shows job.goal.now) job.setup run.lines.items run.world.rehearsal)
+-- what a trial left, where that has fewer lines than the run; else the run
+abbrev pub smaller : List Line → Option (List Line) → List Line
+smaller lines None = lines
+smaller lines (Some kept) = if nat_lt (length kept) (length lines) then kept else lines
 
 -- a trial fails, or leaves no fewer lines than so many
 abbrev pub IsNoSmaller : Option (List Line) → ℕ → Type 0
 IsNoSmaller None count = ⊤
 IsNoSmaller (Some lines) count = count ≤ length lines
+
+-- the trial without any one of so many first lines leaves no fewer lines
+abbrev pub IsVain : (List Line → Option (List Line)) → List Line → ℕ → Type 0
+IsVain trial lines count = (i : ℕ) → i < count → IsNoSmaller (trial (remove lines i)) (length lines)
+
+-- so it is with those that were left out
+abbrev pub Agrees : (List Line → Option (List Line)) → Shrinking → Type 0
+Agrees trial s = IsVain trial s.lines s.settled
+
+-- so it is with all lines
+abbrev pub IsLeastBy : (List Line → Option (List Line)) → List Line → Type 0
+IsLeastBy trial lines = IsVain trial lines (length lines)

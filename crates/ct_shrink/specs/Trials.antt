@@ -1,10 +1,13 @@
 -- Trials: what is left of a list of lines that is tried line by line.
 use Rattle.std.specs.Prelude.{◌≡◌, ℕ, ◌<◌, Bool, List, [], ◌∷◌, Option, Some, None, length, option_map, remove, if◌then◌else◌}
+use Rattle.ct_model.specs.Rehearsal.{Rehearsal}
 use Rattle.ct_world.specs.Setup.{record_of}
 use Rattle.ct_world.specs.declared.setup.Setup.{Setup}
 use Rattle.ct_play.specs.Goals.{uncut}
 use Rattle.ct_play.specs.Played.{Played}
 use Rattle.ct_shrink.specs.Lines.{after_taken, taken}
+use Rattle.ct_shrink.specs.Runs.{IsRunOf}
+use Rattle.ct_shrink.specs.Shrinking.{Agrees, Shrinking}
 use Rattle.ct_shrink.specs.declared.line.Line.{Line}
 
 -- these lines behind a line that was taken; the same where it was left out
@@ -25,3 +28,8 @@ trial test setup lines = tried test (uncut (record_of setup [])) lines
 -- without any one of the lines the trial fails
 abbrev pub IsLeast : (Played → Bool) → Setup → List Line → Type 0
 IsLeast test setup lines = (i : ℕ) → i < length lines → trial test setup (remove lines i) ≡ None
+
+-- the smallest run so far is that of this record, which shows the goal, and what was told of trials is what they left
+pub record IsTried (test : Played → Bool) (setup : Setup) (s : Shrinking) (w : Rehearsal) : Type 0 where
+  pub run : IsRunOf test setup s.lines w
+  pub agrees : Agrees (trial test setup) s

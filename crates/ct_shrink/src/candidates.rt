@@ -1,23 +1,56 @@
-//! Which moves are tried.
+//! Which lines are tried.
 
-ghost use Rattle.std.specs.Prelude.{◌<◌, All, IfOk};
+ghost use Rattle.std.specs.Prelude.{◌≡◌, ◌<◌, ◌≤◌, All, IfOk, IfSome, None, Ok, length, remove};
+ghost use Rattle.ct_shrink.specs.Asking.{IsCandidate};
 ghost use Rattle.ct_shrink.specs.Naming.{IsByContent};
 
 use crate::line::Line;
 use crate::moves::Move;
-use crate::naming_members::names_members;
 use crate::place::Standings;
-use ct_grammar::Goal;
 use ct_names::{Instance, MAX_INSTANCES, Round};
 use std::alloc::{AllocError, Global};
 
-// The lines after the move, in a group of n members.
-pub(crate) fn moved(
+// What is tried next on the run of these lines, in a group of n members: the first move that takes lines out, the last of the moves
+// being the first; and once none is left, the run without the line at the place. None where it has no such line.
+pub(crate) fn next_candidate(
     alloc: Global,
     n: u8,
     lines: &[Line],
-    step: Move,
-) -> Result<Vec<Line>, AllocError>
+    moves: &mut Vec<Move>,
+    place: usize,
+) -> Result<Option<Vec<Line>>, AllocError>
+    requires { All IsByContent lines.now }
+    ensures candidate { IfOk result (λ found. IfSome found
+        (λ candidate. IsCandidate lines.now (length moves.new.items) place candidate.items)) }
+    ensures none { result ≡ Ok None → length lines.now ≤ place }
+    ensures fewer { length moves.new.items ≤ length moves.old.items }
+{
+    while let Some(step) = moves.last() {
+        let moved = moved(alloc, n, lines, *step)?;
+        if moved.len() < lines.len() {
+            return Ok(Some(moved));
+        }
+        moves.pop();
+    }
+    if place >= lines.len() {
+        return Ok(None);
+    }
+    Ok(Some(without(alloc, lines, place)?))
+}
+
+// The lines without the one at this place.
+fn without(alloc: Global, lines: &[Line], place: usize) -> Result<Vec<Line>, AllocError>
+    requires { place < length lines.now }
+    ensures { IfOk result (λ others. others.items ≡ remove lines.now place) }
+{
+    let mut others = Vec::with_capacity(alloc, lines.len())?;
+    others.extend_from_slice(&lines[..place])?;
+    others.extend_from_slice(&lines[place + 1..])?;
+    Ok(others)
+}
+
+// The lines after the move, in a group of n members.
+fn moved(alloc: Global, n: u8, lines: &[Line], step: Move) -> Result<Vec<Line>, AllocError>
     requires { All IsByContent lines.now }
     ensures { IfOk result (λ moved. All IsByContent moved.items) }
 {
@@ -32,11 +65,12 @@ pub(crate) fn moved(
     Ok(moved)
 }
 
-// The moves that are tried on the run of these lines: those that take out most come first.
+// The moves that are tried on the run of these lines, the first one last: those that take out most come first. Where members are named,
+// none are renamed.
 pub(crate) fn moves(
     alloc: Global,
     n: u8,
-    goal: &Goal,
+    names_members: bool,
     lines: &[Line],
 ) -> Result<Vec<Move>, AllocError>
     requires { 0 < n }
@@ -53,11 +87,12 @@ pub(crate) fn moves(
             push_rounds(&mut moves, Round::from(n), instance, *last)?;
         }
     }
-    if !names_members(goal) {
+    if !names_members {
         for count in 1..n {
             moves.push(Move::FirstRounds(count))?;
         }
     }
+    moves.reverse();
     Ok(moves)
 }
 

@@ -1,7 +1,7 @@
 use Rattle.std.proofs.Common.{sym, ◌∙◌, true, false}
 use Rattle.ct_play.specs.Goals.{shows}
 use Rattle.ct_shrink.proofs.Leading.{looked_for}
-use Rattle.ct_shrink.proofs.Trials.{never_tried, none_tried, one_tried, shown_run, shown_tried}
+use Rattle.ct_shrink.proofs.Tried.{never_tried, none_tried, one_tried, shown_run, shown_tried}
 use Rattle.ct_shrink.proofs.trying.kept_lines.Goals as goal
 
 pub loop-line-init : goal.loop-line-init

@@ -1,6 +1,6 @@
 use Rattle.std.proofs.Common.{◌≡◌, Some}
 use Rattle.ct_play.specs.Goals.{shows}
-use Rattle.ct_shrink.proofs.Trials.{IsTrying}
+use Rattle.ct_shrink.proofs.Tried.{IsTrying}
 use Rattle.ct_shrink.proofs.trying.kept_lines.Given as goal
 
 abbrev pub invariant-loop-line : goal.invariant-loop-line
