@@ -5,7 +5,7 @@ use Rattle.std.proofs.Common.{◌∙◌, subst, arith, inl, inr, Some, None, tru
 use Rattle.std.specs.Prelude.{◌==◌, All, Option, nat_lt, option_map}
 use Rattle.std.specs.List.{position, position_or_len}
 use Rattle.std.specs.List.Sorted.{IsNonDecreasingBy, IsPartitionPoint}
-use Rattle.std.proofs.lemmas.Bool.{cases_lt, ltb-true, leb-false}
+use Rattle.std.proofs.lemmas.Bool.{cases_lt, eqb-true, ltb-true, leb-false}
 use Rattle.std.proofs.lemmas.Bool.Decides.{nat_tests}
 use Rattle.std.proofs.lemmas.List.{get_or-drop, get_or-take, get_or_default, length-drop, length-take-le, take_more, take-take, drop_at}
 use Rattle.std.proofs.lemmas.List.{drop-drop, drop-append-le, drop-take}
@@ -104,6 +104,22 @@ pub near_found : (k : ℕ) (line : List ℕ) (n i : ℕ) → n ≤ length line �
 near_found k line n i le is =
     let at : i ≡ 0 + i = omega arith in
     ap (λ j. Some j) at ∙ sym (found k line 0 n (omega arith) (λ j h. absurd (omega arith)) le i is)
+
+-- so is one near the end, where no serial stands twice
+pub end_found : (keys : List ℕ) (base k : ℕ) (line : List ℕ) (from i : ℕ) → IsRising keys base line → from ≤ length line →
+    place_of k (take (length line - from) (drop from line)) ≡ Some i → place_of k line ≡ Some (from + i)
+end_found keys base k line from i rising inside is = found k line from (length line - from) inside front short i is
+  where
+    short : length line - from ≤ length (drop from line)
+    short = omega (arith, length-drop from line)
+
+    front : (j : ℕ) → j < from → (get_or line j 0 == k) ≡ false
+    front j h =
+        let at = position-Some (λ x. x == k) (take (length line - from) (drop from line)) i 0 is in
+        let low : i < length line - from = omega (arith, at.0, length-take-le (length line - from) (drop from line) short) in
+        let here : get_or line (from + i) 0 ≡ k = sym (get_or-take (length line - from) (drop from line) i 0 low ∙ get_or-drop from line i 0)
+        ∙ eqb-true (get_or (take (length line - from) (drop from line)) i 0) k at.1 in
+        number_other (get_or line j 0) k (λ same. (rising j (from + i) 0 (omega arith) (omega arith)).0 (same ∙ sym here))
 
 -- where it has no place it is nowhere
 pub absent : (k : ℕ) (line : List ℕ) → place_of k line ≡ None → All (λ x. x ≢ k) line

@@ -9,8 +9,9 @@ use ct_names::Serial;
 use std::alloc::{AllocError, Global};
 use std::marker::Model;
 
-// So many places at the front are looked through, and a serial leaves there one by one, which is faster for few.
-const NEAR: usize = 32;
+/// So many places at the front and at the end are looked through, and a serial leaves the front one by one, which is faster
+/// for few.
+pub(crate) const NEAR: usize = 32;
 
 // Where more than so many wait somewhere it is kept in what order serials came.
 const LONG: usize = 1024;

@@ -1,10 +1,10 @@
 //! Serials that moved to the ends of lines.
 
-ghost use Rattle.std.specs.Prelude.{◌≡◌, ℕ, ◌+◌, ◌≤◌, [], true, IfOk, length, drop, take, option_map, slice_index_or};
+ghost use Rattle.std.specs.Prelude.{◌≡◌, ℕ, ◌+◌, ◌≤◌, [], true, IfOk, IfSome, Some, length, drop, take, option_map, slice_index_or};
 ghost use Rattle.ct_network.specs.Moves.{HasMoved, IsRising, KeepsOrder, key_of};
 ghost use Rattle.ct_network.specs.Network.{place_of};
 
-use crate::line::first;
+use crate::line::{NEAR, first};
 use ct_names::Serial;
 use std::alloc::{AllocError, Global};
 
@@ -127,8 +127,29 @@ impl Moves {
         }
     }
 
-    /// The first place of the serial in the line.
+    /// The first place of the serial in the line: what came last is looked for at the end, the rest by its key.
     pub(crate) fn find(&self, line: &[Serial], serial: Serial) -> Option<usize>
+        requires { IsRising self.now.keys.items self.now.base line.now }
+        ensures { result ≡ place_of serial line.now }
+    {
+        match self.find_near_end(line, serial) {
+            Some(place) => Some(place),
+            None => self.find_by_key(line, serial),
+        }
+    }
+
+    // The same, where it stands near the end.
+    fn find_near_end(&self, line: &[Serial], serial: Serial) -> Option<usize>
+        requires { IsRising self.now.keys.items self.now.base line.now }
+        ensures { IfSome result (λ place. place_of serial line.now ≡ Some place) }
+    {
+        let from = line.len().saturating_sub(NEAR);
+        let place = first(&line[from..], serial)?;
+        Some(from + place)
+    }
+
+    // The same, wherever it stands.
+    fn find_by_key(&self, line: &[Serial], serial: Serial) -> Option<usize>
         requires { IsRising self.now.keys.items self.now.base line.now }
         ensures { result ≡ place_of serial line.now }
     {

@@ -4,7 +4,7 @@ use Rattle.std.proofs.lemmas.List.{take_rest}
 use Rattle.std.proofs.lemmas.List.Sorted.{IsPartitionPoint-from_clause, IsPartitionedBy-ltb, IsPartitionedBy-leb, IsNonDecreasingBy-drop}
 use Rattle.ct_network.specs.Moves.{key_of}
 use Rattle.ct_network.proofs.Finding.{parted, not_falling}
-use Rattle.ct_network.proofs.moves.Moves.find.Goals as goal
+use Rattle.ct_network.proofs.moves.Moves.find_by_key.Goals as goal
 
 pub returns : goal.returns
 returns c =
