@@ -174,11 +174,12 @@ def found(tool: str, text: str, seeds: Tuple[int, int], most: int, options: List
 # The table.
 
 class Entry(NamedTuple):
-    """A row of the table in docs/GOALS.md: a goal, the seed that shows it, and the steps before and after."""
+    """A row of the table in docs/GOALS.md: a goal, the seed that shows it, the steps before and after, and where it is finished otherwise."""
     goal: str
     seed: int
     before: int
     after: Optional[int]
+    finished: int
 
 
 def table() -> Tuple[List[str], List[Entry]]:
@@ -186,11 +187,11 @@ def table() -> Tuple[List[str], List[Entry]]:
     with open(GOALS, encoding="utf-8") as file:
         text = file.read()
     options = re.search(r"walks of `ct_tool find ([^`]*)`", text)
-    rows = re.findall(r"^\| `([^`]+)` \|.*\| (\d+) \| (\d+) \| (\d+|) \|$", text, re.M)
+    rows = re.findall(r"^\| `([^`]+)` \|.*\| (\d+) \| (\d+) \| (\d+|) \| (\d+) \|$", text, re.M)
     if not options or not rows:
         sys.exit(f"{GOALS} has no table of goals")
-    return options.group(1).split(), [Entry(goal, int(seed), int(before), int(after) if after else None)
-                                      for goal, seed, before, after in rows]
+    return options.group(1).split(), [Entry(goal, int(seed), int(before), int(after) if after else None, int(finished))
+                                      for goal, seed, before, after, finished in rows]
 
 
 def numbers(text: str) -> Tuple[int, int]:

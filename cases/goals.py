@@ -26,6 +26,7 @@ import shrink  # noqa: E402
 
 JOBS = ("1", "2", "4")
 SECONDS = 60
+FINISH = os.path.join(HERE, "..", "examples", "search", "finish.py")
 COUNTED = 30    # seeds that the model counts
 MODELLED = 4   # that the model goes through where nothing is found; before a seed that is found it goes through all
 
@@ -373,12 +374,16 @@ def faults_of_runs(tool: str) -> List[str]:
 
 
 def faults_of_row(tool: str, options: List[str], row: "shrink.Entry") -> List[str]:
-    """The row of docs/GOALS.md has what is found and what is left."""
+    """The row of docs/GOALS.md has what is found, what is left, and what examples/search/finish.py leaves."""
     status, record, told = find(tool, Case(row.goal, " ".join(options), 1, row.seed, True))
     if status or not told.startswith(f"seed {row.seed}: {row.before} steps\n"):
         return [f"not seed {row.seed} with {row.before} steps: {told!r}"]
     left = shrink.shrunk(tool, record, row.goal)
-    return left.faults + ([] if left.after == row.after else [f"{left.after} steps are left, not {row.after}"])
+    done = subprocess.run([sys.executable, FINISH, "--tool", tool, "--goal", row.goal], input=record, stdout=subprocess.PIPE,
+                          stderr=subprocess.PIPE, timeout=SECONDS)
+    finished = len(json.loads(done.stdout)["steps"]) if done.returncode == 0 else done.stderr
+    return (left.faults + ([] if left.after == row.after else [f"{left.after} steps are left, not {row.after}"])
+            + ([] if finished == row.finished else [f"finished otherwise {finished}, not {row.finished}"]))
 
 
 def main() -> int:
