@@ -247,7 +247,7 @@ tool_calls is_session "$folder/goals.schedule" interact
 printf '%s\n' 'members 2' '1 submit set 0 7' '2 lose data 1.1' 'all settle' 'expect any stuck' 'expect all settled' >"$folder/lost.schedule"
 tool_calls is_whole "$folder/lost.schedule" record
 tool_calls is_whole /dev/null walk --members 3 --turns 20 --submit 2 --until 'any round >= 2 and never any crashed'
-tool_calls is_whole /dev/null walk --members 3 --turns 5 --find 'round 9' --seeds 1..2
+tool_calls is_whole /dev/null walk --members 3 --turns 5 --until 'round 9'
 tool_calls is_whole /dev/null find --members 3 --turns 20 --submit 2 --goal 'any round >= 2' --seeds 1..3 --jobs 2
 tool_calls is_whole /dev/null find --members 1 --turns 5 --submit 1 --goal 'any crashed' --seeds 1..3 --jobs 2
 tool_calls is_whole suspicion.json shrink --goal 'any suspects up'

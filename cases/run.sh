@@ -203,7 +203,7 @@ check_walks() {
     "$tool" walk --members 3 --seed 7 | cmp -s - "$folder/output" || wrong+=" a walk is not the same again;"
     ! "$tool" walk --members 3 --seed 8 | cmp -s - "$folder/output" || wrong+=" another seed gives the same walk;"
     [[ $("$ct" replay <"$folder/output") =~ ' posted '[1-9] ]] || wrong+=" a walk posts no batch;"
-    "$tool" walk --members 3 --find round 5 --seeds 1..100 2>"$folder/error" | "$ct" replay >"$folder/report" ||
+    "$tool" find --members 3 --goal 'any round >= 5' --seeds 1..100 2>"$folder/error" | "$ct" replay >"$folder/report" ||
         wrong+=" no seed of 100 gives a round 5;"
     [[ $("$tool" walk --members 3 --until decided 1 | "$ct" replay) =~ 'decided 1:' ]] || wrong+=" nothing is decided;"
     "$tool" walk --members 3 --lose 20 --repeat 40 --batch 1 >"$folder/output" 2>"$folder/error" &&
@@ -277,7 +277,7 @@ check_completions() {
     # shellcheck disable=SC2086 # each word of it
     [[ $(completed ct_tool find --goal '' | tr ' ' '\n' | sort) == $(printf '%s\n' all any ever never and count $facts | sort) ]] ||
         wrong+=" not the words of goals;"
-    [[ $(completed ct_tool walk --find any crashed --see) == '--seed --seeds' ]] || wrong+=" not an option behind a goal;"
+    [[ $(completed ct_tool walk --until any crashed --see) == --seed ]] || wrong+=" not an option behind a goal;"
     [[ $(completed ct_tool steps --from 2 suspicion.j) == suspicion.json ]] || wrong+=" not a file;"
     [[ $(completed ct_tool steps a --fr) == --from ]] || wrong+=" not an option behind a file;"
     [[ $(completed ct replay '<' suspicion.j) == suspicion.json ]] || wrong+=" not a file behind <;"

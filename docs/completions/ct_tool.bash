@@ -82,10 +82,9 @@ _ct_tool_words() {
         ;;
     walk)
         options='--members --turns --seed --rate --cells --submit --crash --postpone --lose --repeat --batch --every --scatter'
-        options+=' --lasting --crashes --cut --until --find --seeds -h --help'
+        options+=' --lasting --crashes --cut --until -h --help'
         values='--members=any --turns=any --seed=any --rate=any --cells=any --submit=any --crash=any --postpone=any --lose=any'
         values+=' --repeat=any --batch=any --every=any --scatter=any --lasting=any --crashes=any --cut=any --until=goal+'
-        values+=' --find=goal+ --seeds=any'
         operands=''
         ;;
     help)

@@ -11,7 +11,7 @@ WIDTH = 110
 GOAL_WORDS = ("all any up ever never and crashed idle settled stuck instance round phase received decided delivered count table waiting waits "
               "heard acked estimate may refuses suspects follows chooses concludes")
 # What stands behind these options, which their help tells in words.
-KINDS = {"--goal": "goal", "--until": "goal", "--find": "goal", "--only": "consensus"}
+KINDS = {"--goal": "goal", "--until": "goal", "--only": "consensus"}
 GOAL = """\
     goal)
         mapfile -t COMPREPLY < <(compgen -W '@WORDS@' -- "$2")

@@ -1,5 +1,5 @@
 -- What is asked for, found part after part.
-use Rattle.std.specs.Prelude.{min, nat_le, take}
+use Rattle.std.specs.Prelude.{min, take}
 use Rattle.std.proofs.Common.{◌≡◌, ◌∙◌, ◌≤◌, ◌+◌, ◌-◌, ◌<◌, ℕ, zero, suc, arith, Bool, true, false, true≢false, ap, refl, sym}
 use Rattle.std.proofs.Common.{List, [], ◌∷◌, ◌++◌, length, append_assoc}
 use Rattle.std.proofs.lemmas.Bool.Decides.{nat_tests}

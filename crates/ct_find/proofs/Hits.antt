@@ -2,7 +2,7 @@
 use Rattle.std.specs.Prelude.{filter, map, min, nat_le, option_map, slice_get, take}
 use Rattle.std.specs.List.{range_with_len}
 use Rattle.std.proofs.Common.{◌≡◌, ◌∙◌, ◌≤◌, ◌<◌, ◌+◌, ◌-◌, ℕ, zero, suc, add-one, Bool, true, false, ap, arith, refl, sym}
-use Rattle.std.proofs.Common.{List, [], ◌∷◌, ◌++◌, length}
+use Rattle.std.proofs.Common.{[], ◌∷◌, ◌++◌, length}
 use Rattle.std.proofs.lemmas.Bool.Decides.{nat_tests}
 use Rattle.std.proofs.lemmas.List.{append-nil, map-append}
 use Rattle.std.proofs.lemmas.List.Elements.{filter-append}

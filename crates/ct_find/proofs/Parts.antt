@@ -1,8 +1,8 @@
--- A search of the seed that was found, alone.
-use Rattle.std.proofs.Common.{◌≡◌, ◌∙◌, ◌+◌, ℕ, zero, suc, Bool, true, false, Option, Some, None, arith, refl, subst, sym}
+-- The seed that was found.
+use Rattle.std.proofs.Common.{◌≡◌, ◌∙◌, ◌+◌, ℕ, zero, suc, Bool, true, false, Some, None, arith, refl, subst, sym}
 use Rattle.ct_grammar.specs.declared.goal.Goal.{Goal}
 use Rattle.ct_walk.specs.declared.options.WalkOptions.{WalkOptions}
-use Rattle.ct_walk.specs.Finding.{finds, first_of, first_seed}
+use Rattle.ct_walk.specs.Finding.{finds, first_seed}
 use Rattle.ct_model.proofs.Basics.Options.{some-same}
 use Rattle.ct_walk.proofs.Looping.{seed_shows, seed_passes, seeds_end}
 
@@ -21,7 +21,3 @@ module _ (o : WalkOptions) (goal : Goal) where
           let same : seed ≡ x = some-same seed x (sym (seed_shows o goal seed (suc left) left (omega arith) shown) ∙ found) in
           subst (λ s. finds o goal s ≡ true) same shown
       go false shown rest = rest (sym (seed_passes o goal seed (suc left) left (omega arith) shown) ∙ found)
-
-  -- a search of that seed alone finds it
-  pub alone_found : (seed left x : ℕ) → first_seed o goal seed left ≡ Some x → first_of o goal (record { first = x; last = x }) ≡ Some x
-  alone_found seed left x found = seed_shows o goal x _ 0 (omega arith) (found_shows seed left x found)

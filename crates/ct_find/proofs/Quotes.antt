@@ -3,7 +3,7 @@ use Rattle.std.specs.Prelude.{codes}
 use Rattle.std.specs.List.{after_first, before_first, position_or_len}
 use Rattle.std.proofs.Common.{◌≡◌, ◌∙◌, ◌<◌, ◌+◌, ◌==◌, ℕ, suc, Bool, true, false, List, [], ◌∷◌, ◌++◌, length, take}
 use Rattle.std.proofs.Common.{ap, append_assoc, arith, drop, refl, sym}
-use Rattle.ct_find.specs.Texts.{quoted, quoted_byte}
+use Rattle.ct_find.specs.Texts.{quoted}
 
 abbrev is_quote : ℕ → Bool
 is_quote c = c == 39

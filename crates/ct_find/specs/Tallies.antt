@@ -1,5 +1,5 @@
 -- How many seeds show what is looked for.
-use Rattle.std.specs.Prelude.{◌≡◌, ℕ, ◌*◌, ◌/◌, List, length, map}
+use Rattle.std.specs.Prelude.{◌≡◌, ◌*◌, ◌/◌, List, length, map}
 use Rattle.ct_grammar.specs.declared.goal.Goal.{Goal}
 use Rattle.ct_walk.specs.declared.call.Seeds.{Seeds}
 use Rattle.ct_walk.specs.declared.options.WalkOptions.{WalkOptions}

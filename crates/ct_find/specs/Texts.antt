@@ -10,6 +10,7 @@ use Rattle.ct_find.specs.declared.again.Again.{Again}
 use Rattle.ct_find.specs.declared.fault.FindFault.{FindFault}
 use Rattle.ct_find.specs.declared.fault.FindFault.TheVariants.{Walk, NotFound}
 use Rattle.ct_find.specs.declared.fault.NotFound.{NotFound as Missing}
+use Rattle.ct_find.specs.declared.found_seed.FoundSeed.{FoundSeed}
 use Rattle.ct_find.specs.declared.tried.Tried.{Tried}
 
 -- ---- while it runs
@@ -27,6 +28,9 @@ tried_text t =
     ∷ codes "/s, " ∷ time_text t.left ∷ codes " left" ∷ [])
 
 -- ---- what is found
+
+abbrev pub seed_line : FoundSeed → List ℕ
+seed_line found = concat (codes "seed " ∷ decimal found.seed ∷ codes ": " ∷ decimal found.steps ∷ codes " steps" ∷ [])
 
 -- an option whose value is not the usual one
 unfoldable pub option_text : List ℕ → ℕ → ℕ → List ℕ

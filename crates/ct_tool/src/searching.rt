@@ -10,7 +10,7 @@ use clap::ArgMatches;
 use ct_best::{BestOptions, best_options, write_best};
 use ct_find::{CountForm, FindCall, FindFault, count_form, find_call, write_count, write_found};
 use ct_streams::Counted;
-use ct_walk::{Call, start_shows, walk_call, write_call};
+use ct_walk::{start_shows, walk_call, write_walk};
 use std::io;
 use std::process::ExitCode;
 use std::thread::Threads;
@@ -22,16 +22,11 @@ pub(crate) fn walk(rt: &HostRuntime, found: &ArgMatches<'_>) -> Result<(), ExitC
         Err(fault) => return Err(refuse(rt, fault)),
     };
     let alloc = rt.alloc();
-    let starts = match &call {
-        Call::Walk(options, until) => start_shows(alloc, options, until.as_ref()),
-        Call::Find(options, goal, _) => start_shows(alloc, options, Some(goal)),
-    };
-    let starts = done(rt, starts)?;
+    let (options, until) = (&call.options, call.until.as_ref());
+    let starts = done(rt, start_shows(alloc, options, until))?;
     let mut writer = Counted::new(io::writer(rt));
-    let ended = write_call(alloc, &call, &mut writer);
-    if let Some(Some(seed)) = searched(rt, ended, writer.is_broken(), starts)? {
-        let _ = eprintln!(rt; "{seed}");
-    }
+    let ended = write_walk(alloc, options, until, &mut writer);
+    let _ = searched(rt, ended, writer.is_broken(), starts)?;
     Ok(())
 }
 

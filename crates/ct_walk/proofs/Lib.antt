@@ -3,7 +3,6 @@ pub mod Cuts
 mod Entries
 pub mod Found
 pub mod Looping
-pub mod Nearest
 pub mod Rounds
 pub mod Trying
 pub mod Turning

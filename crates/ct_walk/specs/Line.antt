@@ -1,5 +1,5 @@
 -- What a command line may ask of walks. `clap` gives what its commands make of words.
-use Rattle.std.specs.Prelude.{◌≡◌, ◌≤◌, ◌-◌, ◌/◌, ⊤, ℕ, false, Option, Some, None, ok_or, Result, Ok, Err, List, [], ◌∷◌}
+use Rattle.std.specs.Prelude.{◌≡◌, ◌≤◌, ◌-◌, ◌/◌, ⊤, ℕ, Option, Some, None, ok_or, Result, Ok, Err, List, [], ◌∷◌}
 use Rattle.std.specs.Prelude.{codes, decimal, fold, string_bytes}
 use Rattle.std.specs.List.{concat, join_by}
 use Rattle.clap.specs.Lexer.{usize_max}
@@ -16,13 +16,11 @@ use Rattle.ct_streams.specs.declared.status.Status.TheVariants as status
 use Rattle.ct_streams.specs.Statuses.{code}
 use Rattle.ct_streams.specs.Values.{◌>>=◌, option_in}
 use Rattle.ct_streams.specs.WordFaults.{fault_line}
-use Rattle.ct_walk.specs.declared.call.Call.{Call}
-use Rattle.ct_walk.specs.declared.call.Call.TheVariants.{Walk, Find}
 use Rattle.ct_walk.specs.declared.call.Seeds.{Seeds}
+use Rattle.ct_walk.specs.declared.call.WalkCall.{WalkCall}
 use Rattle.ct_walk.specs.declared.call_fault.CallFault.{CallFault}
 use Rattle.ct_walk.specs.declared.call_fault.CallFault.TheVariants.{Memory, Word, NoGoal}
 use Rattle.ct_walk.specs.declared.options.WalkOptions.{WalkOptions}
-use Rattle.ct_walk.specs.Options.{IsInRange}
 use Rattle.ct_walk.specs.Sights.{in_full}
 use Rattle.ct_play.specs.Strangers.{stranger}
 use Rattle.ct_walk.specs.Texts.{seeds_of}
@@ -43,19 +41,10 @@ own_rules =
     own_rule (codes "every") ∷ own_rule (codes "scatter") ∷ own_rule (codes "lasting") ∷ own_rule (codes "crashes")
     ∷ own_rule (codes "cut") ∷ []
 
--- it asks for another option, and may not stand beside a third
-abbrev pub find_rule : Rule
-find_rule = record (goal_rule (codes "find")) { is_free = false }
-
--- it asks for another option
-abbrev pub seeds_rule : Rule
-seeds_rule = record (value_rule (codes "seeds")) { value_names = 1; is_free = false }
-
--- the subcommand `walk`: the options of a free run, those of a walk, and what is looked for
+-- the subcommand `walk`: the options of a free run, those of a walk, and what it is made until
 abbrev pub walk_app : App
 walk_app =
-    fold with_rule (fold with_rule (fold with_rule (new_app (codes "walk")) free_rules) own_rules)
-    (goal_rule (codes "until") ∷ find_rule ∷ seeds_rule ∷ [])
+    fold with_rule (fold with_rule (fold with_rule (new_app (codes "walk")) free_rules) own_rules) (goal_rule (codes "until") ∷ [])
 
 -- the command, and after its arguments the options of a walk but for `seed`
 abbrev pub with_search_rules : App → App
@@ -146,30 +135,16 @@ seeds_or_line (Some text) = given_seeds text
 abbrev pub seeds_in : List Row → Result Seeds Text
 seeds_in rows = seeds_or_line (first_of (codes "seeds") rows)
 
--- the walks of the seeds, where this is looked for; else one walk
-abbrev pub call_for : List Row → WalkOptions → Option Goal → Result Call Text
-call_for rows options None = do
-  until ← goal_in rows options.run.members (codes "until")
-  Ok (Walk options until)
-call_for rows options (Some goal) = do
-  seeds ← seeds_in rows
-  Ok (Find options goal seeds)
-
 -- what the options ask for
-unfoldable pub walk_call : List Row → Result Call Text
+unfoldable pub walk_call : List Row → Result WalkCall Text
 walk_call rows = do
   options ← walk_options rows
-  goal ← goal_in rows options.run.members (codes "find")
-  call_for rows options goal
+  until ← goal_in rows options.run.members (codes "until")
+  Ok (record { options = options; until = until })
 
 -- the last seed is none before the first
 abbrev pub IsSeedsInRange : Seeds → Type 0
 IsSeedsInRange seeds = seeds.first ≤ seeds.last
-
--- each option is in its range
-abbrev pub IsCallInRange : Call → Type 0
-IsCallInRange (Walk o until) = IsInRange o
-IsCallInRange (Find o goal seeds) = IsInRange o × IsSeedsInRange seeds
 
 -- ---- faults
 

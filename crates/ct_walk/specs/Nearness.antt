@@ -1,5 +1,5 @@
 -- How near a walk comes to what is looked for.
-use Rattle.std.specs.Prelude.{◌≡◌, ◌≤◌, ◌<◌, ℕ, zero, suc, ◌+◌, max, Option, Some, None, unwrap_or, if◌then◌else◌}
+use Rattle.std.specs.Prelude.{ℕ, zero, suc, ◌+◌, max, Option, Some, None, unwrap_or, if◌then◌else◌}
 use Rattle.ct_grammar.specs.declared.goal.Goal.{Goal}
 use Rattle.ct_model.specs.Rehearsal.{Rehearsal}
 use Rattle.ct_choices.specs.Choices.{round_of}
@@ -8,7 +8,6 @@ use Rattle.ct_world.specs.World.{member_of, if_member}
 use Rattle.ct_walk.specs.declared.options.WalkOptions.{WalkOptions}
 use Rattle.ct_walk.specs.declared.sight.Sight.{Sight}
 use Rattle.ct_walk.specs.declared.sight.Sight.TheVariants.{Decided, Round}
-use Rattle.ct_walk.specs.Options.{with_seed}
 use Rattle.ct_walk.specs.Shown.{is_shown_by}
 use Rattle.ct_walk.specs.Sights.{sight_in}
 use Rattle.ct_walk.specs.Walking.{Walk, most_turns, start, turned, walked}
@@ -53,13 +52,3 @@ rounds_of o until = rounds_for o 0 (most_turns o) (start o until)
 -- `any decided N`, the largest instance whose decision a member got; of others 0
 unfoldable pub came_to : WalkOptions → Option Goal → ℕ
 came_to o until = came (sight_in until) (rounds_of o until) (walked o until)
-
--- ---- the walks of several seeds
-
--- of the seeds from the first one on, below this end, this one's walk came to so much, and is the first that came nearest
-pub record IsNearest (o : WalkOptions) (until : Option Goal) (first end seed reached : ℕ) : Type 0 where
-  pub low : first ≤ seed
-  pub high : seed < end
-  pub comes : reached ≡ came_to (with_seed o seed) until
-  pub before : (s : ℕ) → first ≤ s → s < seed → came_to (with_seed o s) until < reached
-  pub behind : (s : ℕ) → seed ≤ s → s < end → came_to (with_seed o s) until ≤ reached

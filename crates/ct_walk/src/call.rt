@@ -3,13 +3,14 @@
 use crate::options::WalkOptions;
 use ct_grammar::Goal;
 
-/// What the words after `walk` ask for.
+/// What the words after `walk` ask for: to make the walk of these options, until it shows the goal, where there is one, and write its
+/// record.
 #[derive(Drop)]
-pub enum Call {
-    /// To make the walk of these options, until it shows the goal, where there is one, and write its record.
-    Walk(WalkOptions, Option<Goal>),
-    /// To make the walks of these seeds until one shows the goal, and write its record.
-    Find(WalkOptions, Goal, Seeds),
+pub struct WalkCall {
+    /// The options of the walk.
+    pub options: WalkOptions,
+    /// What it is made until.
+    pub until: Option<Goal>,
 }
 
 /// Seeds one after the other, the last one too.

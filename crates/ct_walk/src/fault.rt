@@ -18,7 +18,7 @@ pub enum WalkFault {
     Board,
     /// The writer failed.
     Write,
-    /// No seed that was tried shows what is looked for.
+    /// The walk doesn't show what it was made until.
     NotFound(Missed),
 }
 
@@ -37,7 +37,7 @@ impl WalkFault {
 impl Fault for WalkFault {
     ghost ends_with = { λ fault. status_of fault };
 
-    // 1 where nothing is found, 4 for a stream, 5 for memory and the board.
+    // 1 where the goal is not shown, 4 for a stream, 5 for memory and the board.
     fn status(&self) -> u8 {
         match self {
             WalkFault::NotFound(_) => Status::Refused.code(),

@@ -28,8 +28,8 @@ pub struct WalkOptions {
 }
 
 impl WalkOptions {
-    // The same with another seed.
-    pub(crate) fn with_seed(&self, seed: u32) -> WalkOptions
+    /// The same with another seed.
+    pub fn with_seed(&self, seed: u32) -> WalkOptions
         ensures { result ≡ with_seed self.now seed }
     {
         WalkOptions {

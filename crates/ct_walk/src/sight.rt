@@ -10,7 +10,7 @@ use ct_names::{Instance, Member, Round};
 use ct_world::World;
 use std::fmt;
 
-/// What a goal of one term asks of any member, of which a search tells how near its walks came.
+/// What a goal of one term asks of any member, of which it is told how near a walk came.
 #[derive(Clone, Copy, Debug, Drop, PartialEq, Eq)]
 pub enum Sight {
     /// `any decided N`: it got the decision of this instance.

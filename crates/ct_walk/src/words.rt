@@ -2,14 +2,14 @@
 
 ghost use Rattle.std.specs.Prelude.{◌≡◌, false, fold, option_map, Ok, IfOk, IfErr, IfSome};
 ghost use Rattle.clap.specs.Words.{app_of, found_of, rows_of, rule_of, with_rule};
-ghost use Rattle.ct_walk.specs.Line.{find_rule, goal_rule, own_rule, own_rules, seeds_rule, walk_app, with_search_rules};
+ghost use Rattle.ct_walk.specs.Line.{goal_rule, own_rule, own_rules, walk_app, with_search_rules};
 ghost use Rattle.ct_walk.specs.Line.{given_seeds, options_with, search_options, seeds_in, seeds_or_line, walk_call, walk_options};
-ghost use Rattle.ct_walk.specs.Line.{IsCallFault, IsCallInRange, IsSeedsInRange};
+ghost use Rattle.ct_walk.specs.Line.{IsCallFault, IsSeedsInRange};
 ghost use Rattle.ct_program.specs.FreeOptions.{InRange};
 ghost use Rattle.ct_walk.specs.Options.{IsInRange};
 ghost use Rattle.ct_walk.specs.Texts.{seeds_of};
 
-use crate::call::{Call, Seeds};
+use crate::call::{Seeds, WalkCall};
 use crate::call_fault::CallFault;
 use crate::goals::goal_in;
 use crate::options::WalkOptions;
@@ -65,13 +65,12 @@ const AFTER: &str = "Examples:
   ct_tool walk --members 3 > run.json
   ct_tool walk --members 5 --seed 7 --submit 20 --every 100 > run.json
   ct_tool walk --members 3 --rate 128 --until 'any decided 2' > run.json
-  ct_tool walk --members 3 --find 'any round >= 5' --seeds 1..200 > run.json
 
-Goals are those that `ct_tool find --help` tells.
+Goals are those that `ct_tool find --help` tells; find tries many seeds.
 
 Status:
   0  the record was written
-  1  no walk shows the goal of --until or --find
+  1  the walk doesn't show the goal of --until
   3  the words of the command line are refused
   4  a write of standard output failed
   5  memory was refused";
@@ -81,17 +80,14 @@ const SEEDS: &str = "A..B, whole numbers from 0 to 4294967295, A no larger than 
 
 /// What the options of `walk` ask for; else the fault of the first one, in the order of the definition, that asks for nothing.
 #[tactic(auto, unfolding(crate::specs::Line::walk_call))]
-pub fn walk_call<'a>(alloc: Global, found: &'a ArgMatches<'_>) -> Result<Call, CallFault<'a>>
+pub fn walk_call<'a>(alloc: Global, found: &'a ArgMatches<'_>) -> Result<WalkCall, CallFault<'a>>
     ensures ok { IfOk result (λ call. walk_call (rows_of (found_of found.now)) ≡ Ok call) }
-    ensures range { IfOk result IsCallInRange }
+    ensures range { IfOk result (λ call. IsInRange call.options) }
     ensures err { IfErr result (IsCallFault (walk_call (rows_of (found_of found.now)))) }
 {
     let options = walk_options(found)?;
-    let n = options.run.members;
-    match goal_in(alloc, found, n, "find")? {
-        None => Ok(Call::Walk(options, goal_in(alloc, found, n, "until")?)),
-        Some(goal) => Ok(Call::Find(options, goal, seeds_in(found)?)),
-    }
+    let until = goal_in(alloc, found, options.run.members, "until")?;
+    Ok(WalkCall { options, until })
 }
 
 // The options of a walk.
@@ -188,14 +184,11 @@ pub fn walk_command<'a>(alloc: Global) -> Result<Command<'a>, AllocError>
         AFTER,
     );
     let command = with_free_options(alloc, command, TURNS)?;
-    with_own_options(alloc, command)?
-        .arg(goal_arg(
-            alloc,
-            "until",
-            "Stops once the run shows the goal: decided N,\nround N, 'any round >= 4 and never 2 crashed' ..",
-        ))?
-        .arg(find_arg(alloc)?)?
-        .arg(seeds_arg(alloc)?)
+    with_own_options(alloc, command)?.arg(goal_arg(
+        alloc,
+        "until",
+        "Stops once the run shows the goal: decided N,\nround N, 'any round >= 4 and never 2 crashed' ..",
+    ))
 }
 
 /// The command, and after its arguments the options of a walk but for `seed`.
@@ -236,34 +229,4 @@ fn goal_arg<'a>(alloc: Global, name: &'a str, help: &'a str) -> Arg<'a>
     value_option(alloc, name, help)
         .num_args(1..)
         .value_name("GOAL")
-}
-
-fn find_arg<'a>(alloc: Global) -> Result<Arg<'a>, AllocError>
-    ensures rule { IfOk result (λ find. rule_of find ≡ find_rule) }
-    ensures local { IfOk result (λ find. find.global ≡ false) }
-{
-    goal_arg(
-        alloc,
-        "find",
-        concat!(
-            "Tries the seeds of --seeds in place of --seed until\n",
-            "a walk shows the goal, and writes that walk,\n",
-            "stopped as by --until",
-        ),
-    )
-    .requires_arg("seeds")?
-    .conflicts_with("until")
-}
-
-fn seeds_arg<'a>(alloc: Global) -> Result<Arg<'a>, AllocError>
-    ensures rule { IfOk result (λ seeds. rule_of seeds ≡ seeds_rule) }
-    ensures local { IfOk result (λ seeds. seeds.global ≡ false) }
-{
-    value_option(
-        alloc,
-        "seeds",
-        "The seeds that --find tries, from A to B, both of\nthem too: 0 to 4294967295",
-    )
-    .value_name("A..B")
-    .requires_arg("find")
 }

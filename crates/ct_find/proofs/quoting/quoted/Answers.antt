@@ -1,7 +1,6 @@
 use Rattle.std.specs.Prelude.{string_bytes}
 use Rattle.std.proofs.Common.{rules, ◌∙◌, ◌++◌, Some, None, ap, arith, sym}
 use Rattle.std.proofs.lemmas.Str.Pattern.{split_once_first}
-use Rattle.ct_find.specs.Texts.{quoted}
 use Rattle.ct_find.proofs.Quotes.{quoted_more, quoted_same}
 use Rattle.ct_find.proofs.quoting.quoted.Goals as goal
 

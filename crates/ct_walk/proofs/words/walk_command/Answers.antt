@@ -11,7 +11,4 @@ pub returns : goal.returns
 returns c =
     let run = c.in_ok-command.ensures ∙ ap (λ app. fold with_rule app free_rules) c.subcommand-command.ensures in
     let own = c.in_ok-with_own_options.ensures ∙ ap (λ app. fold with_rule app own_rules) run in
-    let until = with_option _ _ _ _ _ c.in_ok-arg.ensures c.goal_arg.ensures.local own c.goal_arg.ensures.rule in
-    let find = with_option _ _ _ _ _ c.in_ok-arg-2.ensures c.in_ok-find_arg.ensures.local until c.in_ok-find_arg.ensures.rule in
-    IfOk-weaker c.arg-3.result _ _
-    (λ r adds. with_option _ _ _ _ _ adds c.in_ok-seeds_arg.ensures.local find c.in_ok-seeds_arg.ensures.rule) c.arg-3.ensures
+    IfOk-weaker c.arg.result _ _ (λ r adds. with_option _ _ _ _ _ adds c.goal_arg.ensures.local own c.goal_arg.ensures.rule) c.arg.ensures

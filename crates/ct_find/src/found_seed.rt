@@ -1,7 +1,7 @@
 //! What is told of a walk that is found.
 
 ghost use Rattle.std.specs.Prelude.{Some};
-ghost use Rattle.ct_walk.specs.Finding.{seed_line};
+ghost use Rattle.ct_find.specs.Texts.{seed_line};
 
 use std::fmt;
 
