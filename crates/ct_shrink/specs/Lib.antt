@@ -9,3 +9,5 @@ pub mod Line
 pub mod Summaries
 pub mod Texts
 pub mod Writing
+pub mod Making
+pub mod Playing

@@ -1,5 +1,5 @@
 -- Runs that get smaller trial by trial, whoever makes the trials.
-use Rattle.std.specs.Prelude.{⊤, ℕ, ◌<◌, ◌≤◌, nat_lt, List, [], Option, Some, None, length, remove, if◌then◌else◌}
+use Rattle.std.specs.Prelude.{⊤, ℕ, ◌<◌, ◌≤◌, Bool, ◌&&◌, ◌||◌, is_some, nat_lt, List, [], Option, Some, None, length, remove, if◌then◌else◌}
 use Rattle.ct_shrink.specs.declared.line.Line.{Line}
 
 -- the smallest run so far; the lines whose trial is asked for; so many of its first lines were left out in vain; how many trials
@@ -14,6 +14,10 @@ pub record Shrinking : Type 0 where
 -- before the first trial
 abbrev pub first_shrinking : List Line → ℕ → Shrinking
 first_shrinking lines most = record { lines = lines; asked = None; settled = 0; made = 0; most = most }
+
+-- a trial is asked for, or will be: more may be made, and lines are left that were not left out in vain
+abbrev pub asks : Shrinking → Bool
+asks s = is_some s.asked || (nat_lt s.made s.most && nat_lt s.settled (length s.lines))
 
 -- these lines, if any
 abbrev pub lines_of : Option (List Line) → List Line

@@ -5,6 +5,7 @@ ghost use Rattle.ct_model.specs.Cause.{cause};
 ghost use Rattle.ct_play.specs.Acting.{step_of};
 ghost use Rattle.ct_shrink.specs.Lines.{best_choice, other_act, other_line, other_pick, other_repeat};
 ghost use Rattle.ct_shrink.specs.Naming.{IsByContent};
+ghost use Rattle.ct_shrink.specs.Playing.{line_of};
 
 use crate::line::Line;
 use ct_grammar::{Act, Pick};
@@ -19,6 +20,7 @@ use ct_play::{Stage, picked, repeated};
 // The line of an allowed step that is taken next.
 pub(crate) fn line_of(stage: &Stage, step: Step) -> Line
     requires { cause stage.now.rehearsal step ≡ None }
+    ensures is { result ≡ line_of stage.now.rehearsal step }
     ensures step { step_of stage.now.rehearsal result.member result.act ≡ Ok step }
     ensures named { IsByContent result }
 {

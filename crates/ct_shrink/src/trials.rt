@@ -1,9 +1,9 @@
 //! The trials that make a run smaller, one by one.
 
-ghost use Rattle.std.specs.Prelude.{◌≡◌, ◌+◌, ◌<◌, ◌≤◌, ◌↔◌, true, false, None, Ok, All, IfSome, IsSome, IsTrue, List, OnErr, Option};
+ghost use Rattle.std.specs.Prelude.{◌≡◌, ◌+◌, ◌<◌, ◌≤◌, ◌↔◌, true, false, None, Ok, All, IfOk, IfSome, IsSome, IsTrue, List, OnErr, Option};
 ghost use Rattle.std.specs.Prelude.{length, option_map};
 ghost use Rattle.ct_shrink.specs.Naming.{IsByContent};
-ghost use Rattle.ct_shrink.specs.Shrinking.{Agrees, IsLeastBy, first_shrinking, lines_of, smaller};
+ghost use Rattle.ct_shrink.specs.Shrinking.{Agrees, IsLeastBy, asks, first_shrinking, lines_of, smaller};
 ghost use Rattle.ct_shrink.specs.declared.line.Line.{Line};
 
 use crate::candidates::{moves, next_candidate};
@@ -75,9 +75,10 @@ impl Trials {
 
     /// Asks for the next trial, and answers whether there is one. Until the last one was told, that is asked for again.
     pub fn ask(&mut self) -> Result<bool, AllocError>
+        // There is one until no line can be left out, or no more trials may be made.
+        ensures value { IfOk result (λ is_asked. is_asked ≡ asks self.old) }
         ensures asked { result ≡ Ok true → IsSome self.new.asked }
         ensures few { result ≡ Ok true → self.new.made < self.new.most }
-        // It is over where no line can be left out, or where no more trials may be made.
         ensures none { result ≡ Ok false → self.new.asked ≡ None }
         ensures over { result ≡ Ok false → self.new.made < self.new.most → self.new.settled ≡ length self.new.lines }
         ensures same { self.new ≡ record self.old { asked = self.new.asked } }
