@@ -36,6 +36,8 @@ EQUATIONS = {
     "ct_listing/WritesSchedule": "what was written, with a text of which the judge makes the record that was read",
     "ct_complete/WritesCompleted": "what was written, with the record to which turns of all lead from the one that was read",
     "ct_find/IsTallyOf": "each number is that of the seeds' hits",
+    "ct_embed/asked_number": "the number is that of whether a trial is asked for, unless memory was refused",
+    "ct_embed/IsTold": "the run is what the trial left where that is smaller, one more was made, and none is asked for",
 }
 
 # Exported functions that need neither, each with the reason.

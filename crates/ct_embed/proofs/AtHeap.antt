@@ -1,7 +1,7 @@
 -- What a handle holds, in a box at the program's heap. Assumes nothing.
 --     the_heap                 `Global`, with what a statement assumes of it
 --     Kind                     a type whose values a handle can hold, in a content by which it owns what the box and its parts own
---     world, session, walk     the types that are
+--     world, session, walk, shrinker  the types that are
 use Rattle.ct_embed.proofs.Common.{◌≡◌, refl, true, List, [], Val, Al, Bx, B, D}
 use mir.Syntax.{impl, tnil, dnil}
 use denote.RattleType.{RattleType}
@@ -11,13 +11,15 @@ use Rattle.std.specs.contracts.impls.GlobalAllocator.TheImpl.{ghosts}
 use Rattle.std.specs.contracts.alloc.Global as heap
 use Rattle.std.proofs.alloc.Global.TheLaws as heap_laws
 use Rattle.std_alloc.proofs.Flags.{never_true}
-use Rattle.ct_embed.specs.Content.{Content, a_world, a_session, a_walk, world_of, session_of, walk_of}
+use Rattle.ct_embed.specs.Content.{Content, a_world, a_session, a_walk, a_shrinker, world_of, session_of, walk_of, shrinker_of}
 use Rattle.ct_embed.specs.contracts.handle.Handle as handles
 use Rattle.ct_embed.specs.contracts.parts.Parts as parts
 use Rattle.ct_embed.specs.contracts.own_session.OwnSession as sessions
 use Rattle.ct_embed.proofs.own_session.OwnSession.TheLaws as session_laws
 use Rattle.ct_embed.specs.contracts.own_world.OwnWorld as worlds
 use Rattle.ct_embed.proofs.own_world.OwnWorld.TheLaws as world_laws
+use Rattle.ct_shrink.specs.contracts.shrinker.Shrinker as shrinkers
+use Rattle.ct_shrink.proofs.shrinker.Shrinker.TheLaws as shrinker_laws
 use Rattle.ct_walk.specs.contracts.turns.Turns as walks
 use Rattle.ct_walk.proofs.turns.Turns.TheLaws as walk_laws
 
@@ -67,5 +69,15 @@ walk = record {
   content = a_walk;
   of = walk_of;
   is = elim [ a_walk w ↦ λ t. (w, refl) | c ↦ never_true ];
+  owns = λ d vs. (refl, refl);
+}
+
+abbrev pub shrinker : Kind
+shrinker = record {
+  row = shrinkers.the_row;
+  laws = shrinker_laws.the_row_laws;
+  content = a_shrinker;
+  of = shrinker_of;
+  is = elim [ a_shrinker m ↦ λ t. (m, refl) | c ↦ never_true ];
   owns = λ d vs. (refl, refl);
 }

@@ -9,6 +9,7 @@ pub mod Records
 pub mod RefusalNumbers
 pub mod Rooms
 pub mod Seen
+pub mod ShrinkCodes
 pub mod StandingCodes
 pub mod StepCodes
 pub mod Telling

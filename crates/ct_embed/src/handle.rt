@@ -6,7 +6,7 @@ ghost use Rattle.ct_embed.specs.Content.{Content, nothing};
 use std::alloc::Global;
 use std::marker::Model;
 
-/// A world, a session or a walk in a box, or nothing. It takes as much room as a pointer.
+/// A world, a session, a walk or a shrinker in a box, or nothing. It takes as much room as a pointer.
 #[repr(C)]
 #[derive(Drop)]
 pub struct Handle {

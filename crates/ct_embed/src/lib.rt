@@ -1,4 +1,4 @@
-//! Worlds, sessions and walks, for programs in other languages: a static library. `bindings/ct.h` says how C calls it.
+//! Worlds, sessions, walks and runs that are made smaller, for programs in other languages: a static library. `bindings/ct.h` says how C calls it.
 #![tactic(auto)]
 
 mod applied;
@@ -6,6 +6,7 @@ mod asked;
 mod drawing;
 mod handle;
 mod held_session;
+mod held_shrinker;
 mod held_walk;
 mod held_world;
 mod letter_code;
@@ -22,6 +23,7 @@ mod room;
 mod said;
 mod sent;
 mod session_calls;
+mod shrink_calls;
 mod standing_code;
 mod step_code;
 mod turn_code;
@@ -32,6 +34,7 @@ mod world_calls;
 pub use applied::Applied;
 pub use handle::Handle;
 pub use held_session::HeldSession;
+pub use held_shrinker::HeldShrinker;
 pub use held_walk::HeldWalk;
 pub use held_world::HeldWorld;
 pub use letter_code::LetterCode;

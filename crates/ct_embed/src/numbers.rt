@@ -6,7 +6,7 @@ pub(crate) const OUT_OF_MEMORY: u32 = 23;
 /// The board refused a batch.
 pub(crate) const BOARD: u32 = 24;
 
-/// The world, the session or the walk is closed.
+/// The world, the session, the walk or the shrinker is closed.
 pub(crate) const NOT_OPEN: u32 = 25;
 
 /// It is open.
@@ -29,3 +29,6 @@ pub(crate) const NO_RECORD: u32 = 31;
 
 /// An option of a walk is out of its range.
 pub(crate) const BAD_OPTIONS: u32 = 32;
+
+/// No trial is left, or none is asked for.
+pub(crate) const NO_TRIAL: u32 = 33;
