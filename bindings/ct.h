@@ -1,13 +1,14 @@
 /* A rehearsal of Chandra and Toueg's atomic broadcast, in process: worlds, whose steps are typed calls, walks, which draw steps at random
-   from a seed, and sessions, which are told lines of schedules. README.md of this folder says what of it is proved and how to link.
+   from a seed, shrinkers, which make a run smaller trial by trial, and sessions, which are told lines of schedules. README.md of this
+   folder says what of it is proved and how to link.
 
-   Worlds, walks and sessions are structs of the caller's. Each is zeros at first (`ct_world w = {0};`) and zeros again once it is closed.
-   The library keeps what it allocated in them: never copy one, never write to one, close each that was opened.
+   Worlds, walks, shrinkers and sessions are structs of the caller's. Each is zeros at first (`ct_world w = {0};`) and zeros again once it
+   is closed. The library keeps what it allocated in them: never copy one, never write to one, close each that was opened.
 
-   Threads: at most one call at a time on a world, a walk or a session. Between calls it may pass to another thread, where the one call
-   happens before the other (behind a lock, a join or a queue). Different ones may be used on different threads at the same time. No call
-   waits, locks, or uses a signal or a static variable. Don't call the library in a signal handler, or in the child of a fork of a process
-   with threads.
+   Threads: at most one call at a time on a world, a walk, a shrinker or a session. Between calls it may pass to another thread, where the
+   one call happens before the other (behind a lock, a join or a queue). Different ones may be used on different threads at the same time.
+   No call waits, locks, or uses a signal or a static variable. Don't call the library in a signal handler, or in the child of a fork of a
+   process with threads.
 
    Pointers: none may be null, but that to a room or to bytes whose length is 0; gcc and clang warn of a null that they see. Two pointers
    that are passed to one call must not overlap; `ct_copy` refuses a world that is copied into itself.
@@ -71,14 +72,15 @@ enum {
     CT_FULL_STEPS = 22,       /* the record has 1,000,000 steps */
     CT_OUT_OF_MEMORY = 23,    /* malloc or realloc refused */
     CT_BOARD = 24,            /* the board of batches refused one; the world's own board doesn't */
-    CT_NOT_OPEN = 25,         /* the world, the walk or the session is closed */
+    CT_NOT_OPEN = 25,         /* the world, the walk, the shrinker or the session is closed */
     CT_ALREADY_OPEN = 26,     /* it is open: close it first */
     CT_BAD_STEP = 27,         /* no step has these numbers: see ct_step */
     CT_BAD_SETUP = 28,        /* not 1 to 16 members, more than 1,024 cells, or a bound that is not 1 to 1,048,560 */
     CT_NO_WORLD = 29,         /* the session was told no step yet, so there is no group to speak of */
     CT_TOO_LONG = 30,         /* the run has more steps than a diagram shows */
     CT_NO_RECORD = 31,        /* the text is no record */
-    CT_BAD_OPTIONS = 32       /* an option of a walk is out of its range: see ct_walk_options */
+    CT_BAD_OPTIONS = 32,      /* an option of a walk is out of its range: see ct_walk_options */
+    CT_NO_TRIAL = 33          /* no trial is left or, for ct_shrink_told, none was asked for */
 };
 
 /* The name of what a call answers, as records and schedules have it: "TooFew", "Full(Cells)"; "?" of another number. */
@@ -88,7 +90,7 @@ ct_refusal_name(uint32_t refusal) {
         "Done", "NoSuchMember", "Crashed", "NotWaiting", "Busy", "Nothing", "Idle", "WrongPhase", "Decided", "TooFew", "NotLargest",
         "NoProposal", "HasProposal", "Undecided", "BadCommand", "NotSent", "StillWaiting", "Full(Submissions)", "Full(Instances)",
         "Full(Rounds)", "Full(Envelopes)", "Full(Cells)", "Full(Steps)", "OutOfMemory", "Board", "NotOpen", "AlreadyOpen", "BadStep",
-        "BadSetup", "NoWorld", "TooLong", "NoRecord", "BadOptions",
+        "BadSetup", "NoWorld", "TooLong", "NoRecord", "BadOptions", "NoTrial",
     };
     return refusal < sizeof names / sizeof *names ? names[refusal] : "?";
 }
@@ -312,7 +314,7 @@ enum {
 /* A turn. */
 typedef struct {
     ct_step step; /* of CT_TURN_STEP; else its kind is 0 */
-    uint8_t kind; /* CT_TURN_STEP to CT_TURN_OVER; 0: the walk or the world is closed */
+    uint8_t kind; /* CT_TURN_STEP to CT_TURN_OVER; 0: the walk, the shrinker or the world is closed */
 } ct_turn;
 
 /* Opens a walk before its first turn. CT_DONE, CT_ALREADY_OPEN, CT_BAD_OPTIONS or CT_OUT_OF_MEMORY. */
@@ -323,6 +325,52 @@ void ct_walk_close(ct_walk *walk) CT_NONNULL(1);
 
 /* The walk's next turn, in this world as it stands; where one of both is closed the other stays as it is. It asks for no memory. */
 ct_turn ct_walk_turn(ct_walk *walk, const ct_world *world) CT_NONNULL(1, 2);
+
+/* ---- shrinkers */
+
+/* A shrinker makes a run that passes a test of the caller's smaller, as `ct_tool shrink` does for a goal. Each of its trials is the run
+   without some steps, in a fresh world of the caller's, with the members, the cells and the bound of the run's. Until the test is passed
+   there, ct_shrink_turn is asked for the next step; then ct_shrink_told is told whether it was passed:
+
+       while (ct_shrink_next(&shrink) == CT_DONE) {
+           ct_world_open(&trial, members, cells, bound);
+           while (!(passed = test(&trial)) && (turn = ct_shrink_turn(&shrink, &trial)).kind == CT_TURN_STEP) {
+               ct_apply(&trial, turn.step.kind, turn.step.member, turn.step.a, turn.step.b, turn.step.c);
+           }
+           ct_shrink_told(&shrink, &trial, passed);
+           ct_world_close(&trial);
+       }
+
+   In the end the turns in a fresh world, until they are over, make the smallest run. Where the first run passes the test at its end and not
+   before, and the test is a goal, that is the run which `ct_tool shrink` leaves. */
+typedef struct {
+    void *at;
+    bool is_open;
+} ct_shrink;
+
+/* Opens a shrinker of the run of this world's record, of which so many trials are made at most. names_members: the test names members, so
+   that no trial gives them other numbers. CT_DONE, CT_ALREADY_OPEN, CT_NOT_OPEN where the world is closed, or CT_OUT_OF_MEMORY. Takes as
+   long as replaying the record. */
+uint32_t ct_shrink_open(ct_shrink *shrink, const ct_world *world, bool names_members, uint32_t trials) CT_NONNULL(1, 2);
+
+/* Closes it, if it is open. */
+void ct_shrink_close(ct_shrink *shrink) CT_NONNULL(1);
+
+/* Asks for the next trial: CT_DONE, CT_NO_TRIAL where no step can be left out or so many trials were made, CT_NOT_OPEN or
+   CT_OUT_OF_MEMORY. Until the trial was told it is asked for again, from its first step. */
+uint32_t ct_shrink_next(ct_shrink *shrink) CT_NONNULL(1);
+
+/* The next step of the trial, in this world as it stands: CT_TURN_STEP, or CT_TURN_OVER behind the last. In place of one that the rules
+   refuse there, its member does what else it may, or it is left out: a step that is told is allowed. Where no trial is asked for, the steps
+   are those of the smallest run so far. Where the shrinker or the world is closed the other stays as it is. It asks for no memory. */
+ct_turn ct_shrink_turn(ct_shrink *shrink, const ct_world *world) CT_NONNULL(1, 2);
+
+/* Tells what the trial came to: whether the test is passed in this world. Where it is, in fewer steps than the smallest run so far has, the
+   world's run is that from here on. CT_DONE, CT_NO_TRIAL where none is asked for, CT_NOT_OPEN or CT_OUT_OF_MEMORY. */
+uint32_t ct_shrink_told(ct_shrink *shrink, const ct_world *world, bool passed) CT_NONNULL(1, 2);
+
+/* Whether no step of the smallest run can be left out, as far as the trials were told; false where it is closed. */
+bool ct_shrink_is_least(const ct_shrink *shrink) CT_NONNULL(1);
 
 /* ---- sessions */
 

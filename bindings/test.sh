@@ -1,7 +1,7 @@
 #!/usr/bin/env bash
 # Tests of the bindings: that worlds and sessions answer the same in every language, which is what `ct_tool` answers over a pipe, that
-# walks make the records of `ct_tool walk`, that numbers and names are those of the crate, and what the library and the wrappers do with
-# wrong calls, with memory that is refused, and with thousands of handles.
+# walks make the records of `ct_tool walk` and shrinkers leave those of `ct_tool shrink`, that numbers and names are those of the crate, and
+# what the library and the wrappers do with wrong calls, with memory that is refused, and with thousands of handles.
 #
 #     bindings/test.sh [CT_TOOL]
 #
@@ -80,6 +80,7 @@ same() {
     names+=("$* names")
     check "worlds, in $language" gives "$folder/worlds_answered" "$@" worlds "$folder/worlds_asked"
     check "walks, in $language" gives "$folder/walks_answered" "$@" walks "$folder/walks_asked"
+    check "smaller runs, in $language" gives "$folder/shrinks_answered" "$@" shrinks "$folder/shrinks_asked"
     if [[ $language != C ]]; then
         check "sessions, in $language" gives "$folder/sessions_answered" "$@" sessions "$folder/sessions_asked"
         check "10,000 worlds and sessions, in $language" "${bound[@]}" "$@" many 10000
@@ -134,6 +135,7 @@ check 'each allocation refused in turn' "$folder/refused"
 
 check 'what is asked' python3 tests/asking.py "$folder"
 check 'walks of ct_tool' python3 tests/walking.py "$tool" "$folder"
+check 'smaller runs of ct_tool' python3 tests/shrinking.py "$tool" "$folder"
 check 'worlds, over a pipe' over_pipe worlds
 check 'sessions, over a pipe' over_pipe sessions
 check 'building asked' build asked tests/asked.c "${asan[@]}"
@@ -205,6 +207,7 @@ if has node 'node'; then
     has tsc 'types in node' && check 'types in node' tsc --strict --noEmit --target es2020 --moduleResolution node16 --module node16 \
         node/tests/types.ts
     check 'steps, in node' gives "$folder/record.json" node node/tests/asked.js steps "$folder/steps_taken"
+    check 'shrinkers, in node' node node/tests/uses.js
 fi
 
 check 'numbers and names' python3 tests/names.py "${names[@]}"

@@ -159,6 +159,66 @@ func TestWalk(t *testing.T) {
 	}
 }
 
+// The first trial leaves the crash alone; asked has that what is left is what ct_tool leaves.
+func TestShrunk(t *testing.T) {
+	world, err := Open(3, 4, MaxBound)
+	if err != nil {
+		t.Fatal(err)
+	}
+	do(t, world, Step{Kind: Submit, Member: 1, Command: Command{Kind: Set, Value: 7}})
+	do(t, world, Step{Kind: Crash, Member: 2})
+	hasCrashed := func(world *World) bool {
+		crashed, err := world.HasCrashed(2)
+		return crashed && err == nil
+	}
+	for trials, wanted := range []int{2, 1, 1, 1} {
+		least, err := Shrunk(world, true, uint32(trials), hasCrashed)
+		if err != nil {
+			t.Fatal(err)
+		}
+		if steps, err := least.Steps(); err != nil || len(steps) != wanted || steps[wanted-1].Kind != Crash {
+			t.Fatal(steps, err)
+		}
+		least.Close()
+	}
+	shrinker, err := OpenShrinker(world, true, 10)
+	if err != nil {
+		t.Fatal(err)
+	}
+	if err := shrinker.Told(world, true); err != NoTrial || shrinker.IsLeast() {
+		t.Fatal(err)
+	}
+	for i := 0; i < 2; i++ {
+		if err := shrinker.Next(); err != nil {
+			t.Fatal(err)
+		}
+		if step, err := shrinker.Turn(world); err != nil || step.Kind != 0 {
+			t.Fatal(step, err)
+		}
+	}
+	copied := *shrinker
+	world.Close()
+	closed := func(it *Shrinker) {
+		_, turn := it.Turn(world)
+		_, open := OpenShrinker(world, true, 10)
+		_, shrunk := Shrunk(world, true, 10, hasCrashed)
+		for i, err := range []error{turn, it.Told(world, true), open, shrunk} {
+			if err != NotOpen {
+				t.Fatal(i, err)
+			}
+		}
+	}
+	closed(shrinker)
+	shrinker.Close()
+	shrinker.Close()
+	for _, it := range []*Shrinker{shrinker, &copied, {}, nil} {
+		closed(it)
+		if err := it.Next(); err != NotOpen || it.IsLeast() {
+			t.Fatal(err)
+		}
+	}
+}
+
 func TestWrongUses(t *testing.T) {
 	if _, err := Open(17, 4, MaxBound); err != BadSetup {
 		t.Fatal(err)

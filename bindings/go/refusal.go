@@ -43,6 +43,7 @@ const (
 	TooLong         Refusal = C.CT_TOO_LONG
 	NoRecord        Refusal = C.CT_NO_RECORD
 	BadOptions      Refusal = C.CT_BAD_OPTIONS
+	NoTrial         Refusal = C.CT_NO_TRIAL
 )
 
 var names = [...]string{
@@ -78,6 +79,7 @@ var names = [...]string{
 	TooLong:         "TooLong",
 	NoRecord:        "NoRecord",
 	BadOptions:      "BadOptions",
+	NoTrial:         "NoTrial",
 }
 
 // Error gives the refusal's name, as records and schedules have it: "TooFew", "Full(Cells)".

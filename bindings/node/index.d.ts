@@ -1,6 +1,7 @@
 /** A rehearsal of Chandra and Toueg's atomic broadcast, in process, to test implementations against: each step that an implementation takes
- *  is told to a `World`, which does it, or says why the algorithm refuses it. A `Walk` draws the steps of a random run. A `Session` is told
- *  lines of a schedule instead, and answers each (docs/SCHEDULES.md). All are WebAssembly, for node 18 and later and for browsers. */
+ *  is told to a `World`, which does it, or says why the algorithm refuses it. A `Walk` draws the steps of a random run; a `Shrinker`, or
+ *  `shrunk`, makes a run that passes a test smaller. A `Session` is told lines of a schedule instead, and answers each (docs/SCHEDULES.md).
+ *  All are WebAssembly, for node 18 and later and for browsers. */
 
 /** Over 16 registers of 64 bits: a register and a value, a register and an amount, or two registers, of which the second gets the value of
  *  the first. What is read has BigInts as values and amounts; what is told may have numbers, up to 2^53 - 1. */
@@ -125,6 +126,35 @@ export class Walk {
   turn(world: World): Step | "rest" | "over";
   close(): void;
 }
+
+/** `namesMembers`: the test names members, so no trial gives them other numbers. `trials`: so many are made at most, 10,000 if left out. */
+export interface ShrinkOptions { namesMembers?: boolean; trials?: number }
+
+/** It makes a run that passes a test of the caller's smaller trial by trial, as `ct_tool shrink` does for a goal. Each trial is the run
+ *  without some steps, in a fresh world of the caller's with the same members, cells and bound; in the end the turns in a fresh world make
+ *  the smallest run. `shrunk` makes all trials, where the test is one of the world. Of a shrinker or a world that is closed the error's
+ *  `code` is "NotOpen". */
+export class Shrinker {
+  /** Of the run of this world. It takes as long as replaying the record. */
+  constructor(world: World, options?: ShrinkOptions);
+  /** Asks for the next trial, and tells whether there is one: there is none where no step can be left out, or so many trials were made.
+   *  Until the trial was told it is asked for again, from its first step. */
+  next(): boolean;
+  /** The next step of the trial, in this world as it stands, where it is allowed; null behind the last. In place of one that the rules
+   *  refuse there, its member does what else it may, or it is left out. Where no trial is asked for, the steps are those of the smallest
+   *  run so far. */
+  turn(world: World): Step | null;
+  /** Tells what the trial came to: whether the test is passed in this world. Where it is, in fewer steps than the smallest run so far has,
+   *  the world's run is that from here on. An Error whose `code` is "NoTrial" where none is asked for. */
+  told(world: World, passed: boolean): void;
+  /** Whether no step of the smallest run can be left out, as far as the trials were told. */
+  isLeast(): boolean;
+  close(): void;
+}
+
+/** The smallest run that the trials leave of this world's, which passes: each is asked before each of its steps, and behind the last,
+ *  whether it passes. */
+export function shrunk(world: World, passes: (world: World) => boolean, options?: ShrinkOptions): World;
 
 /** A run that is judged line by line, as `ct_tool interact` judges it. */
 export class Session {

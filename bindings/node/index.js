@@ -4,6 +4,7 @@ import { Library } from "./library.js";
 import { held, run } from "./system.js";
 
 export { Session } from "./session.js";
+export { Shrinker, shrunk } from "./shrinker.js";
 export { LineRefused, REFUSALS, Refused, StepRefused } from "./steps.js";
 export { Walk } from "./walk.js";
 export { MAX_BOUND, MAX_CELLS, MAX_MEMBERS, World } from "./world.js";

@@ -41,7 +41,7 @@ export class Library {
     return { place, size };
   }
 
-  // The room of a world or a session, which this call closes when nobody has the object any more.
+  // The room of a handle, which this call closes when nobody has the object any more.
   handle(owner, close) {
     const at = this.room(HANDLE_BYTES).place;
     this.forgotten.register(owner, { at, close });

@@ -136,7 +136,8 @@ export class LineRefused extends Refused {
 export const nameOf = (number) => NAMES[number];
 
 const FAULTS = { 23: ["OutOfMemory", "out of memory"], 24: ["Board", "the board refused a batch"], 25: ["NotOpen", "it is closed"],
-  29: ["NoWorld", "no step was told yet"], 30: ["TooLong", "the run is too long for a diagram"], 31: ["NoRecord", "no record"] };
+  29: ["NoWorld", "no step was told yet"], 30: ["TooLong", "the run is too long for a diagram"], 31: ["NoRecord", "no record"],
+  33: ["NoTrial", "no trial is asked for"] };
 
 // Throws where a call answered another number than 0.
 export function must(status) {

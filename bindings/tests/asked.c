@@ -1,5 +1,6 @@
 /* asked names: the names of what calls answer, by number. asked worlds FILE: what worlds answer to the words of tests/asking.py, in the
-   same text. asked walks FILE: the records of walks with the options of tests/walking.py. */
+   same text. asked walks FILE: the records of walks with the options of tests/walking.py. asked shrinks FILE: the records of smaller runs
+   of those of tests/shrinking.py. */
 #include "ct.h"
 #include <inttypes.h>
 #include <stdio.h>
@@ -296,18 +297,76 @@ static void walks(FILE *file) {
     ct_world_close(&now.world);
 }
 
+/* Whether the world shows the goal of this place in GOALS of tests/shrinking.py. */
+static bool shows(int goal) {
+    unsigned shown = 0;
+    for (uint8_t member = 1; member <= now.members; member++) {
+        ct_standing it = ct_standing_of(&now.world, member);
+        shown += goal == 0 && ct_delivered(&now.world, member, NULL, 0) >= 2;
+        shown += goal == 1 && it.round >= 3;
+        shown += goal == 2 && member == 1 && ct_decided(&now.world, member, 1, NULL, 0) != CT_NONE;
+        shown += goal == 3 && it.phase == CT_WAIT && it.round >= 2;
+    }
+    return goal == 3 ? shown == now.members : shown > 0;
+}
+
+/* The steps, in a fresh world, until the goal is shown there, if there is one; whether it is. */
+static bool tried(ct_shrink *shrink, int goal) {
+    ct_turn turn;
+    open((uint64_t[]){now.members, now.cells, now.bound});
+    while (goal < 0 || !shows(goal)) {
+        turn = ct_shrink_turn(shrink, &now.world);
+        if (turn.kind != CT_TURN_STEP) {
+            return false;
+        }
+        if (apply(turn.step.kind, turn.step.member, turn.step.a, turn.step.b, turn.step.c).refusal != CT_DONE) {
+            puts("refused");
+        }
+    }
+    return true;
+}
+
+static void shrinks(FILE *file) {
+    char *line = NULL;
+    size_t size = 0;
+    for (ssize_t length; (length = getline(&line, &size, file)) > 0;) {
+        ct_shrink shrink = {0};
+        char *at = line;
+        int goal = (int)strtol(at, &at, 10);
+        bool names_members = strtol(at, &at, 10) == 1;
+        uint32_t trials = (uint32_t)strtoul(at, &at, 10);
+        ct_world_close(&now.world);
+        ct_opened opened = ct_open_record(&now.world, (const uint8_t *)at, (size_t)(line + length - at));
+        now.members = opened.members, now.cells = opened.cells, now.bound = opened.bound;
+        if (opened.refusal != CT_DONE || ct_shrink_open(&shrink, &now.world, names_members, trials) != CT_DONE) {
+            puts("not opened");
+        }
+        while (ct_shrink_next(&shrink) == CT_DONE) {
+            bool passed = tried(&shrink, goal);
+            if (ct_shrink_told(&shrink, &now.world, passed) != CT_DONE) {
+                puts("not told");
+            }
+        }
+        tried(&shrink, -1);
+        print_record(stdout, &now.world);
+        ct_shrink_close(&shrink);
+    }
+    free(line);
+    ct_world_close(&now.world);
+}
+
 int main(int argc, char **argv) {
     if (argc == 2) {
-        for (uint32_t number = CT_DONE; number <= CT_BAD_OPTIONS; number++) {
+        for (uint32_t number = CT_DONE; number <= CT_NO_TRIAL; number++) {
             printf("%" PRIu32 " %s\n", number, ct_refusal_name(number));
         }
-        return strcmp(ct_refusal_name(CT_BAD_OPTIONS + 1), "?") != 0;
+        return strcmp(ct_refusal_name(CT_NO_TRIAL + 1), "?") != 0;
     }
     FILE *file = argc == 3 ? fopen(argv[2], "r") : NULL;
     if (file == NULL) {
         return 2;
     }
-    (strcmp(argv[1], "walks") == 0 ? walks : worlds)(file);
+    (strcmp(argv[1], "walks") == 0 ? walks : strcmp(argv[1], "shrinks") == 0 ? shrinks : worlds)(file);
     fclose(file);
     return 0;
 }

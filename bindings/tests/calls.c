@@ -149,10 +149,11 @@ static void standing(void) {
 }
 
 /* There is no turn. */
-static bool has_no_turn(ct_walk *walk, const ct_world *world) {
-    ct_turn turn = ct_walk_turn(walk, world);
+static bool is_none(ct_turn turn) {
     return turn.kind == 0 && turn.step.kind == 0 && turn.step.member == 0 && turn.step.a == 0 && turn.step.b == 0 && turn.step.c == 0;
 }
+
+static bool has_no_turn(ct_walk *walk, const ct_world *world) { return is_none(ct_walk_turn(walk, world)); }
 
 /* Each option out of its range, where all others are usual. */
 static void bad_options(void) {
@@ -195,6 +196,68 @@ static void walks(void) {
     ct_walk_close(&other);
     check("a closed walk", !walk.is_open && walk.at == NULL && has_no_turn(&walk, &world));
     ct_world_close(&world);
+}
+
+/* Each call on a closed shrinker, in this world. */
+static void closed_shrinker(ct_shrink *shrink, const ct_world *world, const char *what) {
+    check(what, !shrink->is_open && shrink->at == NULL && !ct_shrink_is_least(shrink) && ct_shrink_next(shrink) == CT_NOT_OPEN);
+    check(what, is_none(ct_shrink_turn(shrink, world)) && ct_shrink_told(shrink, world, true) == CT_NOT_OPEN);
+    ct_shrink_close(shrink);
+    check(what, !shrink->is_open);
+}
+
+/* The trial's steps in a fresh world, until there member 2 has crashed; how many they are. */
+static size_t tried(ct_shrink *shrink, ct_world *trial) {
+    ct_turn turn;
+    ct_world_close(trial);
+    check("open", ct_world_open(trial, MEMBERS, CELLS, BOUND) == CT_DONE);
+    while (!ct_standing_of(trial, 2).has_crashed && (turn = ct_shrink_turn(shrink, trial)).kind == CT_TURN_STEP) {
+        check("allowed", ct_apply(trial, turn.step.kind, turn.step.member, turn.step.a, turn.step.b, turn.step.c).refusal == CT_DONE);
+    }
+    return steps_of(trial);
+}
+
+/* Of a submission, its receipt and a crash the crash is left. */
+static void shrinkers(void) {
+    static const ct_world never = {0};
+    ct_shrink shrink = {0};
+    ct_world world = {0}, trial = {0};
+    check("open", ct_world_open(&world, MEMBERS, CELLS, BOUND) == CT_DONE && ct_shrink_open(&shrink, &never, true, 9) == CT_NOT_OPEN);
+    closed_shrinker(&shrink, &world, "a shrinker that was never opened");
+    closed_shrinker(&shrink, &never, "neither was opened");
+    check("no step", ct_shrink_open(&shrink, &world, false, 9) == CT_DONE && ct_shrink_is_least(&shrink));
+    check("no step", ct_shrink_next(&shrink) == CT_NO_TRIAL && ct_shrink_turn(&shrink, &world).kind == CT_TURN_OVER);
+    ct_shrink_close(&shrink);
+    check("submit", ct_apply(&world, CT_SUBMIT, 1, CT_SET, 0, 7).refusal == CT_DONE);
+    check("receive", ct_apply(&world, CT_RECEIVE, 1, 1, 0, 0).refusal == CT_DONE);
+    check("crash", ct_apply(&world, CT_CRASH, 2, 0, 0, 0).refusal == CT_DONE);
+    check("no trials", ct_shrink_open(&shrink, &world, true, 0) == CT_DONE && ct_shrink_next(&shrink) == CT_NO_TRIAL);
+    check("no trials", !ct_shrink_is_least(&shrink) && tried(&shrink, &trial) == 3);
+    ct_shrink_close(&shrink);
+    check("open", ct_shrink_open(&shrink, &world, true, 9) == CT_DONE && steps_of(&world) == 3 && !ct_shrink_is_least(&shrink));
+    void *at = shrink.at;
+    check("opened again", ct_shrink_open(&shrink, &world, true, 9) == CT_ALREADY_OPEN && shrink.is_open && shrink.at == at);
+    check("opened again", ct_shrink_open(&shrink, &never, true, 9) == CT_ALREADY_OPEN && shrink.is_open && shrink.at == at);
+    check("told without a trial", ct_shrink_told(&shrink, &world, true) == CT_NO_TRIAL);
+    check("a closed world", is_none(ct_shrink_turn(&shrink, &never)) && ct_shrink_told(&shrink, &never, true) == CT_NOT_OPEN);
+    for (int i = 0; i < 2; i++) {
+        check("the trial, asked for again", ct_shrink_next(&shrink) == CT_DONE && tried(&shrink, &trial) == 1);
+    }
+    check("behind the last step", ct_shrink_turn(&shrink, &trial).kind == CT_TURN_OVER);
+    check("over", ct_shrink_turn(&shrink, &trial).kind == CT_TURN_OVER && ct_shrink_turn(&shrink, &trial).step.kind == 0);
+    check("a closed world", ct_shrink_told(&shrink, &never, true) == CT_NOT_OPEN);
+    check("told", ct_shrink_told(&shrink, &trial, true) == CT_DONE && !ct_shrink_is_least(&shrink));
+    check("told again", ct_shrink_told(&shrink, &trial, true) == CT_NO_TRIAL);
+    check("the crash left out", ct_shrink_next(&shrink) == CT_DONE && tried(&shrink, &trial) == 0);
+    check("told", ct_shrink_told(&shrink, &trial, false) == CT_DONE && ct_shrink_next(&shrink) == CT_DONE);
+    check("and in the next pass", tried(&shrink, &trial) == 0 && ct_shrink_told(&shrink, &trial, false) == CT_DONE);
+    check("no trial is left", ct_shrink_next(&shrink) == CT_NO_TRIAL && ct_shrink_is_least(&shrink));
+    check("told without a trial", ct_shrink_told(&shrink, &trial, true) == CT_NO_TRIAL);
+    check("the least run", tried(&shrink, &trial) == 1 && ct_standing_of(&trial, 2).has_crashed && steps_of(&world) == 3);
+    ct_world_close(&world);
+    ct_shrink_close(&shrink);
+    closed_shrinker(&shrink, &trial, "a shrinker that was closed");
+    ct_world_close(&trial);
 }
 
 static void lengths(void) {
@@ -364,6 +427,7 @@ int main(void) {
     order();
     standing();
     walks();
+    shrinkers();
     lengths();
     nothing();
     records();

@@ -1,5 +1,6 @@
-/* Opens 20,000 worlds, walks and sessions, does steps on them, copies, refuses and closes them. Under ASan and its leak check there is neither
-   fault nor leak; without it the memory in use is about what it was after the first thousand: less than four bytes a handle more. */
+/* Opens 20,000 worlds, walks, shrinkers and sessions, does steps on them, copies, refuses and closes them. Under ASan and its leak check
+   there is neither fault nor leak; without it the memory in use is about what it was after the first thousand: less than four bytes a
+   handle more. */
 #include "ct.h"
 #include <malloc.h>
 #include <stdio.h>
@@ -37,6 +38,23 @@ static void walks(ct_world *world, int turns) {
     ct_walk_close(&walk);
 }
 
+/* So many trials at most of the world's run; of four the first is not told. */
+static void shrinks(const ct_world *world, int trials) {
+    ct_shrink shrink = {0};
+    ct_shrink_open(&shrink, world, trials % 2 == 0, (uint32_t)trials);
+    while (ct_shrink_next(&shrink) == CT_DONE && trials != 4) {
+        ct_world trial = {0};
+        ct_world_open(&trial, 3, 4, 1048560);
+        for (ct_step step; (step = ct_shrink_turn(&shrink, &trial).step).kind != 0;) {
+            ct_apply(&trial, step.kind, step.member, step.a, step.b, step.c);
+        }
+        ct_shrink_told(&shrink, &trial, ct_waiting(&trial, 1, NULL, 0) > 0);
+        ct_world_close(&trial);
+    }
+    ct_shrink_close(&shrink);
+    ct_shrink_close(&shrink);
+}
+
 static bool with_world(int number) {
     ct_world world = {0}, other = {0};
     if (ct_world_open(&world, 3, 4, 1048560) != CT_DONE) {
@@ -44,6 +62,7 @@ static bool with_world(int number) {
     }
     steps(&world, number % TURNS);
     walks(&world, number % TURNS);
+    shrinks(&world, number % 5);
     if (number % 3 == 0) {
         ct_copy(&world, &other);
         steps(&other, 2);

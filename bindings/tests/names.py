@@ -19,7 +19,7 @@ import malletochre   # noqa: E402
 from malletochre import library   # noqa: E402
 
 CAUSES = set(range(1, 25))
-STATUSES = "DONE", "OUT_OF_MEMORY", "BOARD", "NOT_OPEN", "BAD_SETUP", "NO_WORLD", "TOO_LONG", "BAD_OPTIONS"
+STATUSES = "DONE", "OUT_OF_MEMORY", "BOARD", "NOT_OPEN", "BAD_SETUP", "NO_WORLD", "TOO_LONG", "BAD_OPTIONS", "NO_TRIAL"
 CRATE = "../../crates/ct_embed"
 KINDS = {"StepCodes": r"step_code \((\w+) .*\) = \w*code (\d+) ", "MessageCodes": r"told_code .* \((\w+) .*command = (\d+)",
          "LetterCodes": r"wire_code to \((\w+) .*vote_code (\d+) ",   # how definitions have the numbers of steps, commands, envelopes

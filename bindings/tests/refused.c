@@ -41,8 +41,8 @@ enum { NEVER = -1 };
 static size_t ample_steps;
 
 /* How many calls were done though an allocation was refused in them: room ahead for the first receipts of messages and of
-   decisions by three members, some times. */
-enum { MOST_WITHOUT_ROOM = 32 };
+   decisions by three members, some times; in the world of each trial for those of a message. */
+enum { MOST_WITHOUT_ROOM = 66 };
 static int without_room;
 
 /* Whether what happened here is what should: the call is refused only where an allocation was. */
@@ -103,19 +103,78 @@ static bool walks(const ct_world *world) {
     return good;
 }
 
+/* A world, opened where memory may be refused. */
+static bool opens(ct_world *world) {
+    bool before = has_refused;
+    uint32_t status = ct_world_open(world, 3, 64, 1048560);
+    bool good = is_told(status, before) && (status == CT_DONE) == world->is_open;
+    return good && (status == CT_DONE || ct_world_open(world, 3, 64, 1048560) == CT_DONE);
+}
+
+/* A step of a trial, which asks for no memory; its kind is 0 behind the last. */
+static ct_step next_of(ct_shrink *shrink, const ct_world *trial, bool *good) {
+    long asked_before = asked;
+    ct_turn turn = ct_shrink_turn(shrink, trial);
+    *good = *good && asked == asked_before && turn.kind == (turn.step.kind != 0 ? CT_TURN_STEP : CT_TURN_OVER);
+    return turn.step;
+}
+
+/* The trial, until member 1 is in round 2. */
+static bool trial(ct_shrink *shrink) {
+    ct_world world = {0};
+    bool good = opens(&world), before;
+    bool passed = false;
+    for (ct_step it = {.kind = CT_SUBMIT}; good && !passed && it.kind != 0; passed = ct_standing_of(&world, 1).round == 2) {
+        it = next_of(shrink, &world, &good);
+        good = good && (it.kind == 0 || step(&world, it.kind, it.member, it.a, it.b, it.c));
+    }
+    before = has_refused;
+    uint32_t status = ct_shrink_told(shrink, &world, passed);
+    good = good && is_told(status, before) && (status == CT_DONE || ct_shrink_told(shrink, &world, passed) == CT_DONE);
+    ct_world_close(&world);
+    return good;
+}
+
+/* What is left of the run, in which member 1 suspects member 2 and enters round 2: six steps, where memory may be refused. */
+static bool shrinks(void) {
+    static const ct_step run[] = {
+        {.kind = CT_SUBMIT, .member = 3, .a = CT_SET, .c = 5}, {.kind = CT_SUBMIT, .member = 1, .a = CT_SET, .c = 7},
+        {.kind = CT_RECEIVE, .member = 1, .a = 4}, {.kind = CT_BEGIN, .member = 1}, {.kind = CT_CRASH, .member = 2},
+        {.kind = CT_ENTER, .member = 1}, {.kind = CT_SUSPECT, .member = 1}, {.kind = CT_ENTER, .member = 1},
+    };
+    ct_world world = {0}, least = {0};
+    ct_shrink shrink = {0};
+    bool good = opens(&world), before;
+    for (size_t i = 0; i < sizeof run / sizeof *run; i++) {
+        good = good && step(&world, run[i].kind, run[i].member, run[i].a, run[i].b, run[i].c);
+    }
+    before = has_refused;
+    uint32_t status = ct_shrink_open(&shrink, &world, true, 99);
+    good = good && is_told(status, before) && (status == CT_DONE) == shrink.is_open;
+    good = good && (status == CT_DONE || ct_shrink_open(&shrink, &world, true, 99) == CT_DONE);
+    for (status = CT_DONE; good && status != CT_NO_TRIAL;) {
+        before = has_refused;
+        status = ct_shrink_next(&shrink);
+        good = is_told(status, before) && (status != CT_DONE || trial(&shrink));
+    }
+    good = good && ct_shrink_is_least(&shrink) && opens(&least);
+    for (ct_step it; good && (it = next_of(&shrink, &least, &good)).kind != 0;) {
+        good = good && step(&least, it.kind, it.member, it.a, it.b, it.c);
+    }
+    good = good && steps_of(&least) == 6 && ct_standing_of(&least, 1).round == 2;
+    ct_shrink_close(&shrink);
+    ct_world_close(&world);
+    ct_world_close(&least);
+    return good;
+}
+
 static bool worlds(void) {
     ct_world world = {0}, other = {0};
-    bool before = has_refused;
-    uint32_t status = ct_world_open(&world, 3, 64, 1048560);
-    bool good = is_told(status, before) && (status == CT_DONE) == world.is_open;
-    if (status != CT_DONE) {
-        good = good && ct_world_open(&world, 3, 64, 1048560) == CT_DONE;
-    }
-    good = good && turns(&world);
+    bool good = opens(&world) && turns(&world), before;
     ample_steps = refused_at == NEVER ? steps_of(&world) : ample_steps;
     good = good && steps_of(&world) == ample_steps && walks(&world);
     before = has_refused;
-    status = ct_copy(&world, &other);
+    uint32_t status = ct_copy(&world, &other);
     good = good && is_told(status, before) && (status == CT_DONE) == other.is_open;
     good = good && (status != CT_DONE || steps_of(&other) == steps_of(&world));
     ct_world_close(&world);
@@ -160,7 +219,7 @@ static bool sessions(void) {
 int main(void) {
     int passed = 0, failed = 0;
     refused_at = NEVER;
-    if (!worlds() || !sessions() || ample_steps == 0) {
+    if (!worlds() || !shrinks() || !sessions() || ample_steps == 0) {
         printf("FAILED with ample memory\n");
         return 1;
     }
@@ -168,6 +227,7 @@ int main(void) {
     do {
         asked = 0, has_refused = false, refused_at++;
         bool good = worlds();
+        good = shrinks() && good;
         good = sessions() && good;
         good = good && held == 0;
         passed += good;

@@ -1,5 +1,6 @@
 // Asked prints what worlds and sessions answer, as the same program in other languages does: bindings/python/tests/asked.py says how it is
-// called, bindings/tests/asking.py and walking.py what it reads. `asked lines FILE` tells a session the lines of a file, and prints the answers.
+// called, bindings/tests/asking.py, walking.py and shrinking.py what it reads. `asked lines FILE` tells a session the lines of a file, and
+// prints the answers.
 package main
 
 import (
@@ -250,6 +251,37 @@ func walks(text string) {
 	}
 }
 
+// shows says whether the world shows the goal of this place in GOALS of bindings/tests/shrinking.py.
+func shows(goal string, world *it.World) bool {
+	if goal == "2" {
+		return must(world.Decided(1, 1)) != nil
+	}
+	shown, member := 0, uint8(1)
+	for standing, err := world.Standing(member); err == nil; standing, err = world.Standing(member) {
+		switch {
+		case goal == "0" && len(must(world.Delivered(member))) >= 2,
+			goal == "1" && standing.Round >= 3,
+			goal == "3" && standing.Phase == it.Wait && standing.Round >= 2:
+			shown++
+		}
+		member++
+	}
+	return shown == int(member)-1 || shown > 0 && goal != "3"
+}
+
+// shrinks prints the records of smaller runs.
+func shrinks(text string) {
+	for _, line := range strings.Split(strings.TrimSuffix(text, "\n"), "\n") {
+		words := strings.SplitN(line, " ", 4)
+		run := must(it.OpenRecord([]byte(words[3])))
+		trials := uint32(must(strconv.ParseUint(words[2], 10, 32)))
+		least := must(it.Shrunk(run, words[1] == "1", trials, func(world *it.World) bool { return shows(words[0], world) }))
+		fmt.Fprintln(out, must(least.Record()))
+		run.Close()
+		least.Close()
+	}
+}
+
 func sessions(text string) {
 	session := must(it.OpenSession())
 	for _, line := range strings.Split(strings.TrimSuffix(text, "\n"), "\n") {
@@ -318,6 +350,8 @@ func main() {
 		worlds(string(must(os.ReadFile(os.Args[2]))))
 	case "walks":
 		walks(string(must(os.ReadFile(os.Args[2]))))
+	case "shrinks":
+		shrinks(string(must(os.ReadFile(os.Args[2]))))
 	case "sessions":
 		sessions(string(must(os.ReadFile(os.Args[2]))))
 	case "lines":

@@ -1,10 +1,10 @@
 // Prints what worlds and sessions answer, as the same program in other languages does: bindings/python/tests/asked.py says how it is
-// called, bindings/tests/asking.py and walking.py what it reads. `asked.js lines FILE [once]` tells a session the lines of a file, and prints the answers;
-// `asked.js steps FILE` does the steps of one, as bindings/tests/inputs.py writes them, and prints the record. Both tell on standard error
-// how many a second.
+// called, bindings/tests/asking.py, walking.py and shrinking.py what it reads. `asked.js lines FILE [once]` tells a session the lines of a
+// file, and prints the answers; `asked.js steps FILE` does the steps of one, as bindings/tests/inputs.py writes them, and prints the
+// record. Both tell on standard error how many a second.
 
 import { readFileSync, writeSync } from "node:fs";
-import { LineRefused, REFUSALS, Session, StepRefused, Walk, World } from "../index.js";
+import { LineRefused, REFUSALS, Session, StepRefused, Walk, World, shrunk } from "../index.js";
 
 const STEPS = ["", "submit", "receive", "begin", "enter", "choose", "adopt", "suspect", "conclude", "deliver", "follow", "crash",
   "postpone", "lose", "repeat"];
@@ -139,6 +139,27 @@ function walks(path) {
   }
 }
 
+// Whether the world shows the goal of this place in GOALS of bindings/tests/shrinking.py.
+function shows(goal, world) {
+  const members = Array.from({ length: world.members }, (_, i) => i + 1);
+  if (goal === "0") return members.some((p) => world.delivered(p).length >= 2);
+  if (goal === "1") return members.some((p) => world.standing(p).round >= 3);
+  if (goal === "2") return world.decided(1, 1) !== null;
+  return members.map((p) => world.standing(p)).every(({ phase, round }) => phase === "Wait" && round >= 2);
+}
+
+// The records of smaller runs.
+function shrinks(path) {
+  for (const line of linesOf(path)) {
+    const [goal, names, trials, record] = line.split(" ");
+    const world = World.ofRecord(record);
+    const least = shrunk(world, (it) => shows(goal, it), { namesMembers: names === "1", trials: Number(trials) });
+    print(least.record());
+    world.close();
+    least.close();
+  }
+}
+
 function told(session, word, rest) {
   try {
     if (word === "tell") {
@@ -205,6 +226,6 @@ async function many(count) {
 
 const [word, path, more] = process.argv.slice(2);
 if (word === "names") REFUSALS.forEach((name, i) => print(i + 1, name));
-else await { worlds, walks, sessions, lines, steps, many }[word](path, more);
+else await { worlds, walks, shrinks, sessions, lines, steps, many }[word](path, more);
 const text = Buffer.from(out.map((line) => `${line}\n`).join(""));
 for (let at = 0; at < text.length;) at += writeSync(1, text, at);

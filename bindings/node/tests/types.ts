@@ -1,5 +1,5 @@
 // What the package's types let pass, and what they don't.
-import { Envelope, Refused, Session, Step, StepRefused, Walk, World, tool, version } from "../index.js";
+import { Envelope, Refused, Session, Shrinker, Step, StepRefused, Walk, World, shrunk, tool, version } from "../index.js";
 
 const world = new World(3, { cells: 4 });
 const { first, count } = world.apply(["submit", 1, ["set", 0, 7n]]);
@@ -15,9 +15,13 @@ const place: string = phase === "Gather" ? heard.map(({ member, ts }) => `${memb
 const walk = new Walk(3, { seed: 7, cut: 2 });
 const turn = walk.turn(walk.world());
 if (turn !== "rest" && turn !== "over") world.apply(turn);
+const shrinker = new Shrinker(world, { namesMembers: true });
+const tried: Step | null = shrinker.next() ? shrinker.turn(world) : null;
+if (tried) shrinker.told(world, world.enabled(tried));
+const least: World = shrunk(world, (it) => it.hasCrashed(1), { trials: 99 });
 const answers: string[] = new Session().tellAll(["members 3"]);
 const told: Promise<string> = tool(["walk"], { input: "" }).then(({ status, out }) => `${status}${out}`);
-console.log(version, count, said, ts, name, table, place, answers, told);
+console.log(version, count, said, ts, name, table, place, least, answers, told);
 
 // @ts-expect-error: no phase
 world.standing(1).phase = "Begin";

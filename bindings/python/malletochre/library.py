@@ -6,13 +6,13 @@ import os
 from ctypes import POINTER, c_bool, c_char_p, c_size_t, c_uint16, c_uint32, c_uint64, c_uint8, c_void_p
 from typing import Any, Callable, List, Optional
 
-DONE, OUT_OF_MEMORY, BOARD, NOT_OPEN, BAD_SETUP, NO_WORLD, TOO_LONG, BAD_OPTIONS = 0, 23, 24, 25, 28, 29, 30, 32
+DONE, OUT_OF_MEMORY, BOARD, NOT_OPEN, BAD_SETUP, NO_WORLD, TOO_LONG, BAD_OPTIONS, NO_TRIAL = 0, 23, 24, 25, 28, 29, 30, 32, 33
 NONE = ctypes.c_size_t(-1).value
 FEW = 8   # elements of a list for which there is room at first
 
 
 class Handle(ctypes.Structure):
-    """A world, a walk or a session: zeros at first."""
+    """A world, a walk, a shrinker or a session: zeros at first."""
 
     _fields_ = [("at", c_void_p), ("is_open", c_bool)]
 
@@ -70,6 +70,12 @@ _CALLS = {
     "ct_walk_open": (c_uint32, [_AT, POINTER(WalkNumbers)]),
     "ct_walk_close": (None, [_AT]),
     "ct_walk_turn": (TurnNumbers, [_AT, _AT]),
+    "ct_shrink_open": (c_uint32, [_AT, _AT, c_bool, c_uint32]),
+    "ct_shrink_close": (None, [_AT]),
+    "ct_shrink_next": (c_uint32, [_AT]),
+    "ct_shrink_turn": (TurnNumbers, [_AT, _AT]),
+    "ct_shrink_told": (c_uint32, [_AT, _AT, c_bool]),
+    "ct_shrink_is_least": (c_bool, [_AT]),
     "ct_session_open": (c_uint32, [_AT]),
     "ct_session_close": (None, [_AT]),
     "ct_tell": (c_uint32, [_AT, c_char_p, c_size_t]),

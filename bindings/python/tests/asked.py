@@ -4,6 +4,7 @@
     asked.py names            the refusals, each with its number
     asked.py worlds FILE      what worlds answer to the words of a file that bindings/tests/asking.py wrote
     asked.py walks FILE       the records of walks with the options that bindings/tests/walking.py wrote
+    asked.py shrinks FILE     the records of smaller runs of those that bindings/tests/shrinking.py wrote
     asked.py sessions FILE    what a session answers to the lines of one
     asked.py many N           opens N worlds and N sessions, closes every other one and forgets the rest
 """
@@ -13,8 +14,8 @@ from typing import Callable, Dict, Iterable, List, Optional
 
 sys.path.insert(0, os.path.join(os.path.dirname(os.path.abspath(__file__)), ".."))
 
-from malletochre import (Ack, Data, Estimate, LineRefused, Message, Nack, NoWorld, Receive, Refusal, Session, Set,   # noqa: E402
-                         Standing, StepRefused, Submit, Suspect, Turn, Walk, World)
+from malletochre import (Ack, Data, Estimate, LineRefused, Message, Nack, NoWorld, Phase, Receive, Refusal, Session, Set,   # noqa: E402
+                         Standing, StepRefused, Submit, Suspect, Turn, Walk, World, shrunk)
 from malletochre.library import WalkNumbers   # noqa: E402
 from malletochre.session import TOO_LONG   # noqa: E402
 from malletochre.steps import step_of_numbers   # noqa: E402
@@ -147,6 +148,27 @@ def walks(path: str) -> None:
                 print(world.record())
 
 
+def shows(goal: str, world: World) -> bool:
+    """Whether the world shows the goal of this place in GOALS of bindings/tests/shrinking.py."""
+    members = range(1, world.members + 1)
+    if goal == "0":
+        return any(len(world.delivered(member)) >= 2 for member in members)
+    if goal == "1":
+        return any(world.standing(member).round >= 3 for member in members)
+    if goal == "2":
+        return world.decided(1, 1) is not None
+    return all(it.phase is Phase.WAIT and it.round >= 2 for it in map(world.standing, members))
+
+
+def shrinks(path: str) -> None:
+    with open(path, encoding="utf-8") as file:
+        for line in file:
+            goal, names, trials, record = line.split()
+            with World.of_record(record) as world, \
+                    shrunk(world, lambda it: shows(goal, it), names_members=names == "1", trials=int(trials)) as least:
+                print(least.record())
+
+
 def told(session: Session, line: str) -> str:
     sent = session.tell(line)
     return f"{sent.start} {len(sent)}"
@@ -184,7 +206,7 @@ def main() -> None:
     elif word == "many":
         many(int(rest[0]))
     else:
-        {"worlds": worlds, "walks": walks, "sessions": sessions}[word](rest[0])
+        {"worlds": worlds, "walks": walks, "shrinks": shrinks, "sessions": sessions}[word](rest[0])
 
 
 if __name__ == "__main__":

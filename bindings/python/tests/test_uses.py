@@ -18,8 +18,8 @@ from typing import Any, Callable, List
 from unittest import mock
 
 import malletochre
-from malletochre import (IN_PROCESS, Add, Begin, Choose, Copy, Enter, LineRefused, NoWorld, Phase, Receive, Refusal, Session, Set, Standing,
-                         Step, StepRefused, Submit, Turn, Walk, World, library, tool)
+from malletochre import (IN_PROCESS, Add, Begin, Choose, Copy, Crash, Enter, LineRefused, NoWorld, Phase, Receive, Refusal, Session, Set,
+                         Shrinker, Standing, Step, StepRefused, Submit, Turn, Walk, World, library, shrunk, tool)
 
 PACKAGE = os.path.dirname(malletochre.__file__)
 OF_PROCESS = unittest.skipUnless(IN_PROCESS, "needs libct.so")
@@ -58,6 +58,54 @@ class Walks(unittest.TestCase):
         with Walk(3) as walk, World(3, tool=tool.found()) as other:
             self.assertRaises(ValueError, walk.turn, world)
             self.assertRaises(TypeError, walk.turn, other)
+
+
+class Shrinkers(unittest.TestCase):
+    """Shrinkers; asked.py has that what they leave is what `ct_tool shrink` leaves."""
+
+    @unittest.skipIf(IN_PROCESS, "there is libct.so")
+    def test_without_library(self) -> None:
+        with World(3) as world:
+            self.assertRaises(OSError, Shrinker, world)
+
+    @OF_PROCESS
+    def test_trials(self) -> None:
+        with World(3) as world:
+            world.apply(Submit(1, Set(0, 7)))
+            world.apply(Crash(2))
+            for trials, left in (0, world.steps()), (1, [Crash(2)]), (10, [Crash(2)]):
+                with shrunk(world, lambda it: it.has_crashed(2), names_members=True, trials=trials) as least:
+                    self.assertEqual(least.steps(), left)
+            with Shrinker(world) as shrinker:
+                self.assertFalse(shrinker.is_least())
+                self.assertRaisesRegex(ValueError, "no trial", shrinker.told, world, True)
+                while shrinker.next():
+                    with World(3) as trial:
+                        while step := shrinker.turn(trial):
+                            trial.apply(step)
+                        shrinker.told(trial, trial.has_crashed(2))
+                self.assertEqual((shrinker.is_least(), shrinker.next()), (True, False))
+                with World(3) as fresh:
+                    self.assertEqual(shrinker.turn(fresh), Crash(2))
+
+    @OF_PROCESS
+    def test_wrong_uses(self) -> None:
+        with World(3) as world, Shrinker(world) as shrinker:
+            for trials in (-1, 2**32):
+                self.assertRaises(ValueError, Shrinker, world, trials=trials)
+            self.assertRaises(TypeError, Shrinker, world, trials=2.5)
+            with World(3, tool=tool.found()) as other:
+                self.assertRaises(TypeError, Shrinker, other)
+                self.assertRaises(TypeError, shrinker.turn, other)
+                self.assertRaises(TypeError, shrinker.told, other, True)
+        with World(3) as fresh:
+            closed: List[Callable[[], Any]] = [lambda: Shrinker(world), lambda: shrunk(world, bool), lambda: shrinker.turn(fresh),
+                                               lambda: shrinker.told(fresh, True), shrinker.next, shrinker.is_least]
+            for call in closed:
+                self.assertRaisesRegex(ValueError, "closed", call)
+            with Shrinker(fresh) as shrinker:
+                self.assertRaises(ValueError, shrinker.turn, world)
+                self.assertRaises(ValueError, shrinker.told, world, True)
 
 
 class Worlds(unittest.TestCase):

@@ -1,10 +1,10 @@
 //! Prints what worlds and sessions answer, as the same program in other languages does: bindings/python/tests/asked.py says how it is
-//! called, bindings/tests/asking.py and walking.py what it reads.
+//! called, bindings/tests/asking.py, walking.py and shrinking.py what it reads.
 
 mod numbers;
 
-use malletochre::{Command, Content, Envelope, Member, Message, Refusal, Session, SessionError, Setup, Standing, Step, Turn, Walk};
-use malletochre::{WalkOptions, World, MAX_BOUND};
+use malletochre::{shrunk, Command, Content, Envelope, Member, Message, Phase, Refusal, Session, SessionError, Setup, Standing, Step};
+use malletochre::{Turn, Walk, WalkOptions, World, MAX_BOUND};
 use std::error::Error;
 use std::fmt::Write;
 
@@ -177,6 +177,26 @@ fn walks(text: &str) -> Result<(), Box<dyn Error>> {
     Ok(())
 }
 
+/// Whether the world shows the goal of this place in GOALS of bindings/tests/shrinking.py.
+fn shows(goal: &str, world: &World) -> bool {
+    match goal {
+        "0" => world.members().any(|it| it.delivered().len() >= 2),
+        "1" => world.members().any(|it| it.standing().round >= 3),
+        "2" => world.member(1).map_or(false, |it| it.decided(1).is_some()),
+        _ => world.members().all(|it| it.standing().phase == Some(Phase::Wait) && it.standing().round >= 2),
+    }
+}
+
+/// The records of smaller runs.
+fn shrinks(text: &str) -> Result<(), Box<dyn Error>> {
+    for line in text.lines() {
+        let words: Vec<&str> = line.split(' ').collect();
+        let least = shrunk(&World::of_record(words[3])?, words[1] == "1", words[2].parse()?, |world| shows(words[0], world))?;
+        println!("{}", least.record());
+    }
+    Ok(())
+}
+
 fn sessions(text: &str) -> Result<(), SessionError> {
     let mut session = Session::open()?;
     for line in text.lines() {
@@ -216,6 +236,7 @@ fn main() -> Result<(), Box<dyn Error>> {
         ("many", Some(count)) => many(count.parse()?)?,
         ("worlds", Some(path)) => worlds(&std::fs::read_to_string(path)?)?,
         ("walks", Some(path)) => walks(&std::fs::read_to_string(path)?)?,
+        ("shrinks", Some(path)) => shrinks(&std::fs::read_to_string(path)?)?,
         ("sessions", Some(path)) => sessions(&std::fs::read_to_string(path)?)?,
         _ => (1..).map_while(|number| Refusal::try_from(number).ok()).for_each(|it| println!("{} {it}", u32::from(it))),
     }

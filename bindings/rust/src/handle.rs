@@ -3,7 +3,8 @@
 use crate::raw;
 use std::ptr::{null_mut, NonNull};
 
-/// A world, a walk or a session as C holds it, at one address for as long as it lives. It is let go closed: its owner closes it first.
+/// A world, a walk, a shrinker or a session as C holds it, at one address for as long as it lives. It is let go closed: its owner closes it
+/// first.
 pub(crate) struct Handle(NonNull<raw::Handle>);
 
 // The library keeps nothing that belongs to a thread. `NonNull` keeps a handle from being `Sync`, so no two calls on one are at the same

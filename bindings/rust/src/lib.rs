@@ -19,17 +19,18 @@
 //! # }
 //! ```
 //!
-//! A [`Walk`] draws steps at random, as `ct_tool walk` does. A [`Session`] is told lines of a schedule instead (docs/SCHEDULES.md) and
-//! answers each, as `ct_tool interact` does.
+//! A [`Walk`] draws steps at random, as `ct_tool walk` does; a [`Shrinker`], or [`shrunk`], makes a run that passes a test smaller. A
+//! [`Session`] is told lines of a schedule instead (docs/SCHEDULES.md) and answers each, as `ct_tool interact` does.
 //!
 //! The library behind it is proved: the record of a world is a run of the algorithm, whatever is asked of it, and each refusal is the
 //! cause exactly. This wrapper isn't: bindings/README.md tells what it has to keep, which is that a handle stays where it is, and that
-//! there is one call on it at a time. So worlds, walks and sessions are `Send` and not `Sync`:
+//! there is one call on it at a time. So worlds, walks, shrinkers and sessions are `Send` and not `Sync`:
 //!
 //! ```
 //! fn goes_to_another_thread<T: Send>() {}
 //! goes_to_another_thread::<malletochre::World>();
 //! goes_to_another_thread::<malletochre::Walk>();
+//! goes_to_another_thread::<malletochre::Shrinker>();
 //! goes_to_another_thread::<malletochre::Session>();
 //! ```
 //!
@@ -52,6 +53,7 @@ mod record;
 mod refusal;
 mod session;
 mod setup;
+mod shrinker;
 mod standing;
 mod step;
 mod steps;
@@ -67,6 +69,7 @@ pub use record::RecordError;
 pub use refusal::{Limit, Refusal};
 pub use session::{Session, SessionError};
 pub use setup::{OpenError, Setup, MAX_BOUND, MAX_CELLS, MAX_MEMBERS, REGISTERS};
+pub use shrinker::{shrunk, ShrinkError, Shrinker};
 pub use standing::{Phase, Standing};
 pub use step::Step;
 pub use steps::Steps;

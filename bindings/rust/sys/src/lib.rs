@@ -15,11 +15,12 @@ pub const NO_WORLD: u32 = 29;
 pub const TOO_LONG: u32 = 30;
 pub const NO_RECORD: u32 = 31;
 pub const BAD_OPTIONS: u32 = 32;
+pub const NO_TRIAL: u32 = 33;
 
 /// The kind of a turn of a walk where all were made.
 pub const TURN_OVER: u8 = 3;
 
-/// A world, a walk or a session, as C holds it: zeros at first.
+/// A world, a walk, a shrinker or a session, as C holds it: zeros at first.
 #[repr(C)]
 pub struct Handle {
     pub at: *mut c_void,
@@ -176,6 +177,12 @@ extern "C" {
     pub fn ct_walk_open(walk: *mut Handle, options: *const WalkOptions) -> u32;
     pub fn ct_walk_close(walk: *mut Handle);
     pub fn ct_walk_turn(walk: *mut Handle, world: *mut Handle) -> Turn;
+    pub fn ct_shrink_open(shrink: *mut Handle, world: *mut Handle, names_members: bool, trials: u32) -> u32;
+    pub fn ct_shrink_close(shrink: *mut Handle);
+    pub fn ct_shrink_next(shrink: *mut Handle) -> u32;
+    pub fn ct_shrink_turn(shrink: *mut Handle, world: *mut Handle) -> Turn;
+    pub fn ct_shrink_told(shrink: *mut Handle, world: *mut Handle, passed: bool) -> u32;
+    pub fn ct_shrink_is_least(shrink: *mut Handle) -> bool;
     pub fn ct_session_open(session: *mut Handle) -> u32;
     pub fn ct_session_close(session: *mut Handle);
     pub fn ct_tell(session: *mut Handle, bytes: *const u8, length: usize) -> u32;
