@@ -37,7 +37,7 @@ TOOL = os.path.join(HERE, "..", "crates", "ct_tool", "out", "ct_tool")
 GOALS = os.path.join(HERE, "..", "docs", "GOALS.md")
 SECONDS = 120
 NAMED = ("receive", "postpone", "lose", "repeat")   # steps that name an envelope
-INSTEAD = {"adopt": "suspect", "suspect": "adopt"}
+INSTEAD = {"adopt": "suspect", "suspect": "adopt", "deliver": "follow", "follow": "deliver"}
 
 
 class Line(NamedTuple):

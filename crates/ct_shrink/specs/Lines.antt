@@ -7,7 +7,7 @@ use Rattle.ct_model.specs.Cause.{cause}
 use Rattle.ct_model.specs.Rehearsal.{Rehearsal}
 use Rattle.ct_model.specs.declared.step.Step.TheVariants as step
 use Rattle.ct_grammar.specs.declared.act.Act.{Act}
-use Rattle.ct_grammar.specs.declared.act.Act.TheVariants.{Receive, Choose, Adopt, Suspect, Postpone, Lose, Repeat}
+use Rattle.ct_grammar.specs.declared.act.Act.TheVariants.{Receive, Choose, Adopt, Suspect, Deliver, Follow, Postpone, Lose, Repeat}
 use Rattle.ct_grammar.specs.declared.pick.Pick.{Pick}
 use Rattle.ct_grammar.specs.declared.pick.Pick.TheVariants.{Serial, First}
 use Rattle.ct_play.specs.Acting.{go_on, step_of, stepped}
@@ -42,8 +42,8 @@ other_repeat w p (First carried from) = option_map (λ k. First carried (sender_
 unfoldable pub best_choice : Rehearsal → ℕ → Option ℕ
 best_choice w p = find (λ q. is_none (cause w (step.Choose p q))) (range_with_len 1 w.setting.members)
 
--- what p may do in place of an act that is refused: take the same from another sender, suspect for adopt and the other way, make
--- the best choice
+-- what p may do in place of an act that is refused: take the same from another sender, suspect for adopt, follow for deliver and
+-- each the other way, make the best choice
 abbrev pub other_act : Rehearsal → ℕ → Act → Option Act
 other_act w p (Receive pick) = option_map Receive (other_pick w p pick)
 other_act w p (Postpone pick) = option_map Postpone (other_pick w p pick)
@@ -52,6 +52,8 @@ other_act w p (Repeat pick) = option_map Repeat (other_repeat w p pick)
 other_act w p (Choose q) = option_map Choose (best_choice w p)
 other_act w p Adopt = Some Suspect
 other_act w p Suspect = Some Adopt
+other_act w p Deliver = Some Follow
+other_act w p Follow = Some Deliver
 other_act w p _ = None
 
 -- the line of that act

@@ -58,6 +58,8 @@ fn other_act(stage: &Stage, member: Member, act: Act) -> Option<Act>
         Act::Choose(_) => Some(Act::Choose(best_choice(stage, member)?)),
         Act::Adopt => Some(Act::Suspect),
         Act::Suspect => Some(Act::Adopt),
+        Act::Deliver => Some(Act::Follow),
+        Act::Follow => Some(Act::Deliver),
         _ => None,
     }
 }

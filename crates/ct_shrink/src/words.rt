@@ -22,10 +22,11 @@ const AFTER: &str =
     "A trial takes the steps of the run one by one, without some of them. An envelope
 goes by what it carries and its sender. A step that is refused is left out, or
 another one is taken in its place: the same from another sender, suspect for
-adopt and the other way, the choice of an estimate with the largest ts. Where
-the goal is shown after fewer steps, these are the run from then on. In the end
-no step can be left out, unless the trials came to their number. On a terminal a
-line tells how many trials were made; --tries with that number stops there.
+adopt, follow for deliver and each the other way, the choice of an estimate with
+the largest ts. Where the goal is shown after fewer steps, these are the run
+from then on. In the end no step can be left out, unless the trials came to
+their number. On a terminal a line tells how many trials were made; --tries with
+that number stops there.
 
 Goals are those that `ct_tool find --help` tells.
 
